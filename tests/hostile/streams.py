@@ -314,19 +314,42 @@ def _try_host(judge: Judge):
         _, reads, writes, _ = made.numbers()
         for number in range(1, reads + 1):
             _try_failing(judge, made, case, "READ_FAIL", number, READ_FAULT)
-        outs = case.whole.out.count(b"\n")
-        for number in range(1, min(writes, outs) + 1):
+        outs = writes - (1 if case.whole.err else 0)
+        for number in range(1, outs + 1):
             _try_failing(judge, made, case, "WRITE_FAIL", number, WRITE_FAULT)
+        for most in (100, 1000):
+            _try_failing_on_the_way(judge, made, case, most)
+
+
+# A write that a signal interrupted is made again.
+INTERRUPTED = 4
 
 
 def _try_failing(judge: Judge, made: Host, case: Case, name: str, number: int, wanted: int):
-    """The output is what was taken: nothing where a read fails, and the lines before a write that fails."""
-    taken = b"" if wanted == READ_FAULT else b"".join(case.whole.out.splitlines(keepends=True)[: number - 1])
-    for error in (4, 5, 11, 28):
+    """Where a read fails nothing is written, and where a write fails the output is what earlier ones took, and no more."""
+    for error in (INTERRUPTED, 5, 11, 28):
         ended = judge.runner.run(case.command, case.text, made.changed(**{name: number, "ERROR": error}))
-        fits = (ended.status, ended.out, ended.err) == (wanted, taken, LINES[wanted])
-        fault = None if fits else f"status {ended.status} where call {number} failed with error {error}"
+        if wanted == WRITE_FAULT and error == INTERRUPTED:
+            fault = _same(case, ended.status, ended.out, ended.err)
+        else:
+            fault = _failed(case, wanted, ended.status, ended.out, ended.err)
+            if fault is None and wanted == READ_FAULT and ended.out != b"":
+                fault = "an output where a read failed"
+            if fault is None and wanted == WRITE_FAULT and number == 1 and ended.out != b"":
+                fault = "an output where the first write failed"
+        fault = None if fault is None else f"{fault} (call {number} failed with error {error})"
         judge.judge(fault, "failing reads and writes", ["env", f"{name}={number}", *case.command], case.text, ended)
+
+
+def _try_failing_on_the_way(judge: Judge, made: Host, case: Case, most: int):
+    """The second write fails, where each takes a few bytes: the first ones stand on the output, once."""
+    if len(case.whole.out) <= most:
+        return
+    ended = judge.runner.run(case.command, case.text, made.changed(WRITE_MOST=most, WRITE_FAIL=2, ERROR=28))
+    fault = _failed(case, WRITE_FAULT, ended.status, ended.out, ended.err)
+    if fault is None and ended.out != case.whole.out[:most]:
+        fault = f"{len(ended.out)} bytes of output where the first write took {most}"
+    judge.judge(fault, "a write that fails on the way", ["env", f"WRITE_MOST={most}", "WRITE_FAIL=2", *case.command], case.text, ended)
 
 
 # Arguments that are of none of the forms.

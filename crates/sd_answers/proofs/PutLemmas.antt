@@ -1,5 +1,5 @@
 -- Texts written one after another.
-use Rattle.std.proofs.Common.{◌≡◌, ℕ, suc, ◌+◌, ◌<◌, ◌≤◌, List, [], ◌∷◌, ◌++◌, length, get_or, take, drop, Option, Ok, Err, Result, refl, sym, ap, subst, ◌∙◌, arith, inl, inr}
+use Rattle.std.proofs.Common.{◌≡◌, ℕ, suc, ◌+◌, ◌<◌, ◌≤◌, List, [], ◌∷◌, ◌++◌, length, get_or, take, drop, Option, Some, None, Ok, Err, Result, refl, sym, ap, subst, ◌∙◌, arith, inl, inr}
 use Rattle.std.specs.List.{flat_map}
 use Rattle.std.proofs.lemmas.List.FromFn.{length-range_with_len, get_or-range_with_len}
 use Rattle.std.proofs.lemmas.Bool.{cases_lt}
@@ -8,11 +8,11 @@ use Rattle.std.proofs.lemmas.List.Concat.{flat_map-append}
 use Rattle.std.proofs.KnownBytes.{Appends-nil, Appends-trans}
 use Rattle.std.proofs.lemmas.Result.{err_from_is_err_and}
 use Rattle.std.specs.Result.{IsErrAnd, IsErrOf}
-use Rattle.std.specs.Io.KnownBytes.{Appends}
+use Rattle.std.specs.Io.KnownBytes.{Appends, Keeps}
 use Rattle.sd_text.specs.Faults.{HasRisen}
 use Rattle.sd_answers.specs.declared.writing.Unwritten.{Unwritten}
 use Rattle.sd_answers.specs.declared.writing.Unwritten.TheVariants.{Fault, Memory}
-use Rattle.sd_answers.specs.StreamChanges.{StreamChange, AppendsPart, Puts, TellsLine}
+use Rattle.sd_answers.specs.StreamChanges.{StreamChange, AppendsPart, HandsOn, Puts, TellsLine}
 
 -- the prefix of a text whose prefix is xs
 take_past : (xs ys : List ℕ) (n : ℕ) → take (length xs + n) (xs ++ ys) ≡ xs ++ take n ys
@@ -125,3 +125,58 @@ tells_of err line (Ok u) p none = record {
 }
 tells_of err line (Err Fault) p none = record { part = p.part; whole = λ sound. absurd (sound (p.fault refl)) }
 tells_of err line (Err Memory) p none = absurd (none refl)
+
+-- ---- what is handed on
+
+-- what was appended is there where it is kept
+kept_behind : (a b c : Option (List ℕ)) (xs : List ℕ) → Appends a b xs → Keeps b c → Appends a c xs
+kept_behind None b c xs p k = tt
+kept_behind (Some x) None c xs p k = absurd p
+kept_behind (Some x) (Some y) None xs p k = absurd k
+kept_behind (Some x) (Some y) (Some z) xs p k = k ∙ p
+
+module _ (a b c : Option (List ℕ)) (f g h : ℕ) (text held : List ℕ) where
+  whole_part : Appends a c text → AppendsPart a c text
+  whole_part p = (length text, subst (Appends a c) (sym (take_all (length text) text (let e : length text ≤ length text = omega arith in e))) p)
+
+  -- what is written and then handed on is written
+  pub Puts-handed : (put r : Result (Unit {0}) Unwritten) → Puts a b f g text put → HandsOn put b c g h held r → Puts a c f h text r
+  Puts-handed (Ok u) (Ok v) p q = record {
+    never_falls = let m = p.never_falls in let n = q.never_falls in omega arith;
+    ok = kept_behind a b c text p.ok q.same;
+    fault = λ is. cc;
+    no_fault = λ none. (q.no_fault none).1 ∙ p.no_fault (λ is. cc);
+    part = tt;
+  }
+  Puts-handed (Ok u) (Err Fault) p q = record {
+    never_falls = let m = p.never_falls in let n = q.never_falls in omega arith;
+    ok = tt;
+    fault = λ is. elim (q.fault is) [ inl was ↦ cc | inr rose ↦ risen_later f g h p.never_falls rose ];
+    no_fault = λ none. absurd (none refl);
+    part = whole_part (kept_behind a b c text p.ok q.same);
+  }
+  Puts-handed (Ok u) (Err Memory) p q = let same = (q.no_fault (λ is. cc)).0 in cc
+  Puts-handed (Err Fault) (Ok v) p q = let same = (q.no_fault (λ is. cc)).0 in cc
+  Puts-handed (Err Fault) (Err Fault) p q = record {
+    never_falls = let m = p.never_falls in let n = q.never_falls in omega arith;
+    ok = tt;
+    fault = λ is. let rose = p.fault refl in let n = q.never_falls in omega arith;
+    no_fault = λ none. absurd (none refl);
+    part = (p.part.0, kept_behind a b c (take p.part.0 text) p.part.1 q.same);
+  }
+  Puts-handed (Err Fault) (Err Memory) p q = let same = (q.no_fault (λ is. cc)).0 in cc
+  Puts-handed (Err Memory) (Ok v) p q = let same = (q.no_fault (λ is. cc)).0 in cc
+  Puts-handed (Err Memory) (Err Fault) p q = record {
+    never_falls = let m = p.never_falls in let n = q.never_falls in omega arith;
+    ok = tt;
+    fault = λ is. elim (q.fault is) [ inl was ↦ cc | inr rose ↦ risen_later f g h p.never_falls rose ];
+    no_fault = λ none. absurd (none refl);
+    part = (p.part.0, kept_behind a b c (take p.part.0 text) p.part.1 q.same);
+  }
+  Puts-handed (Err Memory) (Err Memory) p q = record {
+    never_falls = let m = p.never_falls in let n = q.never_falls in omega arith;
+    ok = tt;
+    fault = λ is. cc;
+    no_fault = λ none. (q.no_fault none).1 ∙ p.no_fault (λ is. cc);
+    part = (p.part.0, kept_behind a b c (take p.part.0 text) p.part.1 q.same);
+  }

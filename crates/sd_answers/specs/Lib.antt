@@ -1,6 +1,7 @@
 pub mod Answers
 pub mod Certificates
 pub mod Cuts
+pub mod Handing
 pub mod Inputs
 pub mod Passing
 pub mod Refusals

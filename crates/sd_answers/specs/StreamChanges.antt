@@ -1,10 +1,10 @@
 -- What a call did to a stream, as far as the stream tells it: its bytes and its count of faults before and after.
 -- Source: this project's own.
-use Rattle.std.specs.Prelude.{◌≡◌, ℕ, ◌≤◌, List, take, Option, Result, OnOk, OnErr, IsErrOf}
-use Rattle.std.specs.Io.KnownBytes.{Appends}
+use Rattle.std.specs.Prelude.{◌≡◌, ℕ, ◌≤◌, ◌⊎◌, List, [], take, Option, Result, Ok, Err, OnOk, OnErr, IsErrOf, ⊤}
+use Rattle.std.specs.Io.KnownBytes.{Appends, Keeps}
 use Rattle.sd_text.specs.Faults.{HasRisen}
 use Rattle.sd_answers.specs.declared.writing.Unwritten.{Unwritten}
-use Rattle.sd_answers.specs.declared.writing.Unwritten.TheVariants.{Fault}
+use Rattle.sd_answers.specs.declared.writing.Unwritten.TheVariants.{Fault, Memory}
 
 pub record StreamChange : Type 0 where
   pub before : Option (List ℕ)
@@ -47,3 +47,20 @@ pub record Puts (before after : Option (List ℕ)) (faults faults' : ℕ) (text 
 pub record TellsLine (err : StreamChange) (line : List ℕ) : Type 0 where
   pub part : AppendsPart err.before err.after line
   pub whole : (HasFault err → ⊥) → Appends err.before err.after line
+
+-- ---- bytes that a sink holds back
+
+-- What handing on does behind a call that ended so. It appends nothing. A fault of the call stays, and nothing more is tried;
+-- otherwise nothing is held back any more, or a fault was counted.
+pub record HandsOn (put : Result (Unit {0}) Unwritten) (before after : Option (List ℕ)) (faults faults' : ℕ) (held : List ℕ) (result : Result (Unit {0}) Unwritten) : Type 0 where
+  pub never_falls : faults ≤ faults'
+  pub same : Keeps before after
+  pub fault : IsErrOf result Fault → IsErrOf put Fault ⊎ HasRisen faults faults'
+  pub no_fault : (IsErrOf result Fault → ⊥) → (result ≡ put) × (faults' ≡ faults) × (held ≡ [])
+
+-- What a call that printed leaves held back of what it was before: nothing, or, where memory ran out before it wrote, no more than that. Where
+-- a write failed nothing is said.
+abbrev pub LeavesHeld : List ℕ → List ℕ → Result (Unit {0}) Unwritten → Type 0
+LeavesHeld before after (Ok u) = after ≡ []
+LeavesHeld before after (Err Fault) = ⊤
+LeavesHeld before after (Err Memory) = (after ≡ before) ⊎ (after ≡ [])

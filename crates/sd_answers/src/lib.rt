@@ -17,4 +17,4 @@ pub use inputs::{Certificate, read_certificate, read_input};
 pub use laws::{
     accepted_texts_have_no_journal, texts_have_one_cut, texts_without_journal_have_no_cut,
 };
-pub use writing::{Unwritten, put_line, put_text};
+pub use writing::{Unwritten, hand_on, print_line, print_text, put_line, put_text};

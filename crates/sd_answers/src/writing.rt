@@ -2,7 +2,7 @@
 
 ghost use Rattle.std.specs.Prelude.{◌≡◌, ◌<◌, ◌≤◌, flat_map, length, slice_range, IsErrOf};
 ghost use Rattle.sd_answers.specs.declared.writing.Unwritten.TheVariants.{Fault, Memory};
-ghost use Rattle.sd_answers.specs.StreamChanges.{Puts};
+ghost use Rattle.sd_answers.specs.StreamChanges.{HandsOn, LeavesHeld, Puts};
 ghost use Rattle.sd_text.specs.Lines.{EndsLine, IsOneLine};
 
 use arrayvec::ArrayVec;
@@ -93,4 +93,39 @@ pub fn put_text<K: Sink>(out: &mut K, text: &[u8]) -> Result<(), Unwritten>
         from = to;
     }
     Ok(())
+}
+
+/// Hands on what a call has written that ended so. A fault of the call stays, and nothing more is tried then.
+pub fn hand_on<K: Sink>(out: &mut K, put: Result<(), Unwritten>) -> Result<(), Unwritten>
+    ensures { HandsOn put (K.contents out.old) (K.contents out.new) (K.fault_count out.old) (K.fault_count out.new) (K.held_back out.new) result }
+{
+    if let Err(Unwritten::Fault) = put {
+        return Err(Unwritten::Fault);
+    }
+    match out.flush() {
+        Ok(()) => put,
+        Err(_) => Err(Unwritten::Fault),
+    }
+}
+
+/// Writes a line, with its newline, as one piece, and hands it on.
+pub fn print_line<K: Sink>(out: &mut K, line: &[u8]) -> Result<(), Unwritten>
+    requires { IsOneLine line.now }
+    ensures puts { Puts (K.contents out.old) (K.contents out.new) (K.fault_count out.old) (K.fault_count out.new) line.now result }
+    ensures no_memory { IsErrOf result Memory → ⊥ }
+    ensures leaves { LeavesHeld (K.held_back out.old) (K.held_back out.new) result }
+{
+    let put = put_line(out, line);
+    hand_on(out, put)
+}
+
+/// Writes a text of whole lines, each line as one piece, and hands it on.
+pub fn print_text<K: Sink>(out: &mut K, text: &[u8]) -> Result<(), Unwritten>
+    requires { EndsLine text.now }
+    ensures puts { Puts (K.contents out.old) (K.contents out.new) (K.fault_count out.old) (K.fault_count out.new) text.now result }
+    ensures no_memory { IsErrOf result Memory → ⊥ }
+    ensures leaves { LeavesHeld (K.held_back out.old) (K.held_back out.new) result }
+{
+    let put = put_text(out, text);
+    hand_on(out, put)
 }

@@ -5,6 +5,7 @@ ghost use Rattle.sd_machine.specs.LockGraph.{cycles_of};
 ghost use Rattle.sd_machine.specs.Runs.{IsComplete};
 ghost use Rattle.sd_state.specs.declared.states.State.{State as StateValue};
 ghost use Rattle.sd_state.specs.Opening.{opening as opening_of};
+ghost use Rattle.sd_world.specs.Plain.{Stands, told};
 ghost use Rattle.sd_audit.specs.Audits.{IsFault, IsJournal, IsMemory};
 ghost use Rattle.sd_audit.specs.Collecting.{IsJournalWith};
 ghost use Rattle.sd_audit.specs.Reading.{HasRead, IsAtAccounts};
@@ -15,10 +16,12 @@ use crate::differences::first_difference;
 use crate::entries::{EntriesRead, take_entries};
 use sd_accounts::{Accounts, cycles};
 use sd_entry_reader::Names;
+use sd_log::EntryLog;
 use sd_opening::opening;
 use sd_state::State;
 use sd_types::{CpuId, Work};
-use std::alloc::Global;
+use sd_world::PlainWorld;
+use std::alloc::{AllocError, Global};
 
 /// Why a text is not the journal of a complete run. Lines are counted from 1, entries from 0.
 #[derive(Clone, Copy, PartialEq, Eq)]
@@ -124,7 +127,42 @@ fn check_rest(
     }
 }
 
-// Reads the text once, from the initial state on.
+/// The homes of the initial state, on which no entry was made.
+fn first_world<'a>(
+    alloc: Global,
+    work: &'a Work,
+    opening: &State,
+) -> Result<PlainWorld<'a>, AllocError>
+    requires start { opening.now ≡ opening_of work.now }
+    ensures stands { IfOk result (λ x. Stands work.now x) }
+    ensures work { IfOk result (λ x. x.work.now ≡ work.now) }
+    ensures entries { IfOk result (λ x. x.entries.items ≡ []) }
+{
+    let log = EntryLog::new(alloc);
+    PlainWorld::resume(alloc, work, opening, log)
+}
+
+/// The state to which the entries led that were read.
+fn end_of(
+    alloc: Global,
+    work: &Work,
+    world: &PlainWorld<'_>,
+    accounts: &Accounts,
+    text: &[u8],
+    at: EntriesRead,
+) -> Result<State, AuditFault>
+    requires stands { Stands work.now world.now }
+    requires read { HasRead work.now text.now (told work.now world.now) accounts.now at.number at.from }
+    ensures state { IfOk result (λ end. end ≡ told work.now world.now) }
+    ensures fault { IfErr result (IsFault work.now text.now) }
+{
+    match world.state(alloc, work) {
+        Ok(end) => Ok(end),
+        Err(_) => Err(AuditFault::Memory { number: at.number }),
+    }
+}
+
+// Reads the text once, on the homes of the initial state.
 fn judge<C: Collector>(
     alloc: Global,
     names: &Names<'_>,
@@ -143,11 +181,14 @@ fn judge<C: Collector>(
     let Ok(mut accounts) = Accounts::new(alloc, work) else {
         return Err(AuditFault::Memory { number: 0 });
     };
-    let mut s = opening;
-    let at = take_entries(alloc, names, &mut s, &mut accounts, text, collector)?;
-    let found = check_rest(alloc, work, &s, &accounts, text, at)?;
+    let Ok(mut world) = first_world(alloc, work, &opening) else {
+        return Err(AuditFault::Memory { number: 0 });
+    };
+    let at = take_entries(alloc, names, &mut world, &mut accounts, text, collector)?;
+    let end = end_of(alloc, work, &world, &accounts, text, at)?;
+    let found = check_rest(alloc, work, &end, &accounts, text, at)?;
     Ok(Judged {
-        end: s,
+        end,
         number: at.number,
         cycles: found,
     })

@@ -1,8 +1,8 @@
 //! The lines before the accounts.
 
 ghost use Rattle.std.specs.Prelude.{◌≡◌, [], ◌+◌, ◌<◌, ◌≤◌, ◌^◌, IfOk, IfErr, length, drop};
-ghost use Rattle.sd_state.specs.Opening.{opening};
 ghost use Rattle.sd_accounts.specs.Counters.{HasTaken};
+ghost use Rattle.sd_world.specs.Plain.{Stands, told};
 ghost use Rattle.sd_audit.specs.Audits.{IsFault};
 ghost use Rattle.sd_audit.specs.Reading.{HasReadWith, IsAtAccounts};
 
@@ -12,8 +12,8 @@ use crate::lines::{is_accounts, take_line};
 use sd_accounts::Accounts;
 use sd_entries::EntryLine;
 use sd_entry_reader::Names;
-use sd_state::State;
 use sd_text::next_line;
+use sd_world::PlainWorld;
 use std::alloc::Global;
 
 /// How many entries were read, and where the line `accounts` begins.
@@ -23,20 +23,23 @@ pub struct EntriesRead {
     pub from: usize,
 }
 
-/// Reads the lines before `accounts`, and makes their entries on the initial state.
+/// Reads the lines before `accounts`, and makes their entries on a world that has made none.
 pub fn take_entries<C: Collector>(
     alloc: Global,
     names: &Names<'_>,
-    s: &mut State,
+    world: &mut PlainWorld<'_>,
     accounts: &mut Accounts,
     text: &[u8],
     collector: &mut C,
 ) -> Result<EntriesRead, AuditFault>
     requires text { length text.now < 2 ^ 31 }
-    requires start { s.old ≡ opening names.now.work.now }
+    requires stands { Stands names.now.work.now world.old }
+    requires work { world.old.work.now ≡ names.now.work.now }
+    requires start { world.old.entries.items ≡ [] }
     requires none { HasTaken names.now.work.now [] accounts.old }
     requires empty { C.became names.now.work.now [] collector.old collector.old }
-    ensures read { IfOk result (λ at. HasReadWith names.now.work.now text.now s.new accounts.new at.number at.from (λ es. C.became names.now.work.now es collector.old collector.new)) }
+    ensures stands { Stands names.now.work.now world.new }
+    ensures read { IfOk result (λ at. HasReadWith names.now.work.now text.now (told names.now.work.now world.new) accounts.new at.number at.from (λ es. C.became names.now.work.now es collector.old collector.new)) }
     ensures accounts { IfOk result (λ at. IsAtAccounts text.now at.from) }
     ensures bound { IfOk result (λ at. at.number ≤ at.from) }
     ensures fault { IfErr result (IsFault names.now.work.now text.now) }
@@ -48,7 +51,7 @@ pub fn take_entries<C: Collector>(
         if is_accounts(line) {
             return Ok(at);
         }
-        let entry = take_line(alloc, names, s, &mut buffer, line, at.number, collector)?;
+        let entry = take_line(alloc, names, world, &mut buffer, line, at.number, collector)?;
         accounts.add(&entry);
         at = EntriesRead {
             number: at.number + 1,

@@ -1,7 +1,8 @@
 //! One line before the accounts.
 
-ghost use Rattle.std.specs.Prelude.{◌≡◌, ◌<◌, ◌^◌, IfOk, IfErr, IsTrue, ◌↔◌, codes};
+ghost use Rattle.std.specs.Prelude.{◌≡◌, ◌+◌, ◌<◌, ◌^◌, IfOk, IfErr, IsTrue, ◌↔◌, codes, length};
 ghost use Rattle.sd_machine.specs.Events.{after};
+ghost use Rattle.sd_world.specs.Plain.{Stands, told};
 ghost use Rattle.sd_audit.specs.Audits.{IsLineFault, IsTaken};
 ghost use Rattle.sd_audit.specs.Collecting.{IsAfter, Takes};
 
@@ -10,8 +11,8 @@ use crate::collecting::Collector;
 use crate::ranges::in_range;
 use sd_entries::EntryLine;
 use sd_entry_reader::{Names, read_entry};
-use sd_state::State;
 use sd_types::Entry;
+use sd_world::PlainWorld;
 use std::alloc::Global;
 
 /// Whether a line is the one that stands before the accounts.
@@ -26,18 +27,24 @@ pub(crate) fn is_accounts(line: &[u8]) -> bool
 pub(crate) fn take_line<C: Collector>(
     alloc: Global,
     names: &Names<'_>,
-    s: &mut State,
+    world: &mut PlainWorld<'_>,
     buffer: &mut EntryLine,
     line: &[u8],
     number: u64,
     collector: &mut C,
 ) -> Result<Entry, AuditFault>
-    requires follows { IsAfter names.now.work.now number s.old (λ es. (first : C) × C.became names.now.work.now es first collector.old) }
+    requires stands { Stands names.now.work.now world.old }
+    requires work { world.old.work.now ≡ names.now.work.now }
+    requires counted { number ≡ length world.old.entries.items }
+    requires follows { IsAfter names.now.work.now number (told names.now.work.now world.old) (λ es. (first : C) × C.became names.now.work.now es first collector.old) }
     requires number { number < 2 ^ 31 }
-    ensures taken { IfOk result (IsTaken names.now.work.now s.old number line.now) }
-    ensures state { IfOk result (λ e. s.new ≡ after names.now.work.now s.old e.number e.cpu e.event) }
-    ensures takes { IfOk result (λ e. (first : C) → Takes names.now.work.now s.old e (λ es. C.became names.now.work.now es first collector.old) (λ es. C.became names.now.work.now es first collector.new)) }
-    ensures fault { IfErr result (IsLineFault names.now.work.now s.old number line.now) }
+    ensures stands { Stands names.now.work.now world.new }
+    ensures work { world.new.work ≡ world.old.work }
+    ensures more { IfOk result (λ e. length world.new.entries.items ≡ number + 1) }
+    ensures taken { IfOk result (IsTaken names.now.work.now (told names.now.work.now world.old) number line.now) }
+    ensures state { IfOk result (λ e. told names.now.work.now world.new ≡ after names.now.work.now (told names.now.work.now world.old) e.number e.cpu e.event) }
+    ensures takes { IfOk result (λ e. (first : C) → Takes names.now.work.now (told names.now.work.now world.old) e (λ es. C.became names.now.work.now es first collector.old) (λ es. C.became names.now.work.now es first collector.new)) }
+    ensures fault { IfErr result (IsLineFault names.now.work.now (told names.now.work.now world.old) number line.now) }
 {
     let Some(entry) = read_entry(names, buffer, line) else {
         return Err(AuditFault::NotAnEntry {
@@ -48,7 +55,7 @@ pub(crate) fn take_line<C: Collector>(
     if entry.number != number {
         return Err(AuditFault::Illegal { number });
     }
-    match collector.enter(alloc, names.work, s, &entry) {
+    match collector.enter(alloc, names.work, world, &entry) {
         Ok(true) => Ok(entry),
         Ok(false) => Err(AuditFault::Illegal { number }),
         Err(_) => Err(AuditFault::Memory { number }),

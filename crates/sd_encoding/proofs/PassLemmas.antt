@@ -34,21 +34,20 @@ use Rattle.sd_encoding.specs.Order.{key_at as key_of_place}
 use Rattle.sd_encoding.proofs.AlikeLemmas.{body_same, duty_with, key_or_zero, place_with}
 use Rattle.sd_encoding.proofs.ChangeLemmas.{bind_alike, close_alike, duty_step, join_alike, kernel_alike, lock_alike, rouse_alike, tokens_alike, unbind_alike}
 use Rattle.sd_encoding.proofs.PutLemmas.{finish_alike, hold_alike, if_alike, let_go_alike, number_alike, priority_same, put_alike, put_where_alike, remark_alike, woken_alike}
-use Rattle.sd_encoding.proofs.RunLemmas.{asleep_alike}
 use Rattle.sd_encoding.proofs.SeekLemmas.{duty_is, place_is}
 use Rattle.sd_encoding.proofs.SourceLemmas.{AreAlike, Gone}
 use Rattle.sd_encoding.proofs.StepLemmas.{alike_later}
 use Rattle.sd_encoding.proofs.TellLemmas.{best_sleeper_same, best_waiter_same, count_of_same, has_waiters_same, lock_same, others_same, runner_same}
 
 module _ (n m : ℕ) (x s : State) (h : AreAlike n m x s) where
-  lock_given : (l : ℕ) (a b : LockState) → a ≡ b → AreAlike n m (with_lock x l a) (with_lock s l b)
+  pub lock_given : (l : ℕ) (a b : LockState) → a ≡ b → AreAlike n m (with_lock x l a) (with_lock s l b)
   lock_given l a b e = subst (λ z. AreAlike n m (with_lock x l a) (with_lock s l z)) e (lock_alike n m x s h l a)
 
-  tokens_given : (k a b : ℕ) → a ≡ b → AreAlike n m (with_count x k a) (with_count s k b)
+  pub tokens_given : (k a b : ℕ) → a ≡ b → AreAlike n m (with_count x k a) (with_count s k b)
   tokens_given k a b e = subst (λ z. AreAlike n m (with_count x k a) (with_count s k z)) e (tokens_alike n m x s h k a)
 
   -- a duty without a key
-  duty_given : (c : ℕ) (a b : Duty) → a ≡ b → key_in a ≡ None → AreAlike n m (set_duty x c a) (set_duty s c b)
+  pub duty_given : (c : ℕ) (a b : Duty) → a ≡ b → key_in a ≡ None → AreAlike n m (set_duty x c a) (set_duty s c b)
   duty_given c a b e none = duty_step n m x s h c a b Gone (ap bare_duty e) none (ap key_in (sym e) ∙ none)
 
   waiter_priority : (l : LockId) → priority_of x (best_waiter x l.0 Writer) ≡ priority_of s (best_waiter s l.0 Writer)
@@ -80,7 +79,7 @@ module _ (n m : ℕ) (x s : State) (h : AreAlike n m x s) where
   owner_key : (w : Work) (l : LockId) → key_in (after_owner w x l) ≡ None
   owner_key w l = if_key (is_mutex (kind_of w l)) (duty.WakeMutex l) (after_writer x l) refl (if_key (writer_first (priority_of x (best_waiter x l.0 Writer)) (priority_of x (best_waiter x l.0 Reader))) (duty.GrantWriter l) (duty.GrantReaders l) refl refl)
 
-  release_alike : (w : Work) (c : CpuId) (l : LockId) (lock : LockState) → AreAlike n m (release_from w x c l lock) (release_from w s c l lock)
+  pub release_alike : (w : Work) (c : CpuId) (l : LockId) (lock : LockState) → AreAlike n m (release_from w x c l lock) (release_from w s c l lock)
   release_alike w c l Free = h
   release_alike w c l (Owned o) = free_alike c l (after_owner w x l) (after_owner w s l) (after_owner_same n m x s h w l) (owner_key w l)
   release_alike w c l (ReadHeld r) =
@@ -89,59 +88,7 @@ module _ (n m : ℕ) (x s : State) (h : AreAlike n m x s) where
       (lock_alike n m x s h l.0 (ReadHeld (r - 1)))
   release_alike w c l (Passing d r) = lock_alike n m x s h l.0 (Passing d (r - 1))
 
-  released_alike : (w : Work) (c : CpuId) (t : ℕ) (l : LockId) → AreAlike n m (released w x c t l) (released w s c t l)
-  unfolding released
-  released_alike w c t l =
-      let given : AreAlike n m (release_from w x c l (lock_of x l.0)) (release_from w s c l (lock_of s l.0)) =
-      subst (λ z. AreAlike n m (release_from w x c l (lock_of x l.0)) (release_from w s c l z)) (lock_same x s h.same l.0) (release_alike w c l (lock_of x l.0)) in
-      let_go_alike n m (release_from w x c l (lock_of x l.0)) (release_from w s c l (lock_of s l.0)) given t l
-
-  pub owned_alike : (w : Work) (t : ℕ) (l : LockId) → AreAlike n m (owned w x t l) (owned w s t l)
-  unfolding owned
-  owned_alike w t l = finish_alike n m _ _ (hold_alike n m _ _ (lock_alike n m x s h l.0 (Owned (thread_id t))) t l) w t
-
-  pub read_alike : (w : Work) (t : ℕ) (l : LockId) → AreAlike n m (read w x t l) (read w s t l)
-  unfolding read
-  read_alike w t l =
-      finish_alike n m _ _ (hold_alike n m _ _ (lock_given n m x s h l.0 (one_more (lock_of x l.0)) (one_more (lock_of s l.0)) (ap one_more (lock_same x s h.same l.0))) t l) w t
-
-  pub exited_alike : (w : Work) (c : CpuId) (t : ℕ) (l : LockId) → AreAlike n m (exited w x c t l) (exited w s c t l)
-  unfolding exited
-  exited_alike w c t l = remark_alike n m _ _ (finish_alike n m _ _ (released_alike w c t l) w t) c.0
-
-  pub cv_alike : (w : Work) (c : CpuId) (t : ℕ) (k : ChanId) (l : LockId) → AreAlike (n + 1) (m + 1) (cv_waited w x n c t k l) (cv_waited w s m c t k l)
-  unfolding cv_waited
-  cv_alike w c t k l = asleep_alike n m _ _ (released_alike w c t l) w c t k
-
-  pub sema_taken_alike : (w : Work) (t : ℕ) (k : ChanId) → AreAlike n m (sema_taken w x t k) (sema_taken w s t k)
-  unfolding sema_taken
-  sema_taken_alike w t k = finish_alike n m _ _ (tokens_given n m x s h k.0 (count_of x k.0 - 1) (count_of s k.0 - 1) (ap (λ c. c - 1) (count_of_same x s h.same k.0))) w t
-
-  pub sema_counted_alike : (w : Work) (t : ℕ) (k : ChanId) → AreAlike n m (sema_counted w x t k) (sema_counted w s t k)
-  unfolding sema_counted
-  sema_counted_alike w t k = finish_alike n m _ _ (tokens_given n m x s h k.0 (count_of x k.0 + 1) (count_of s k.0 + 1) (ap (λ c. c + 1) (count_of_same x s h.same k.0))) w t
-
-  pub sema_handed_alike : (w : Work) (t u : ℕ) (at : Put) → AreAlike (n + 1) (m + 1) (sema_handed w x n t u at) (sema_handed w s m t u at)
-  unfolding sema_handed
-  sema_handed_alike w t u at = finish_alike (n + 1) (m + 1) _ _ (woken_alike n m x s h w u at) w t
-
-  pub woke_alike : (w : Work) (t : ℕ) (u : Option (ThreadId × Put)) → AreAlike (n + 1) (m + 1) (woke w x n t u) (woke w s m t u)
-  unfolding woke
-  woke_alike w t None = alike_later n m _ _ (finish_alike n m x s h w t)
-  woke_alike w t (Some u) = finish_alike (n + 1) (m + 1) _ _ (woken_alike n m x s h w u.0.0 u.1) w t
-
-  pub woke_all_alike : (w : Work) (c : CpuId) (t : ℕ) (k : ChanId) → AreAlike (n + 1) (m + 1) (woke_all w x n c t k) (woke_all w s m c t k)
-  unfolding woke_all
-  woke_all_alike w c t k =
-      finish_alike (n + 1) (m + 1) _ _
-      (if_alike (n + 1) (m + 1) x (set_duty x c.0 (duty.Rouse k (back_key n))) s (set_duty s c.0 (duty.Rouse k (back_key m))) (is_none (best_sleeper x k.0)) (is_none (best_sleeper s k.0))
-      (ap (λ o. is_none o) (best_sleeper_same x s h.same k.0)) (alike_later n m x s h) (rouse_alike n m x s h c.0 k)) w t
-
-  pub walk_ended_alike : (c : CpuId) → AreAlike n m (walk_ended x c) (walk_ended s c)
-  unfolding walk_ended
-  walk_ended_alike c = duty_given n m x s h c.0 duty.Nothing duty.Nothing refl refl
-
-unblocked_by : (n m : ℕ) (x s : State) → AreAlike n m x s → (c : CpuId) (l : LockId) (a b : Bool) → a ≡ b → AreAlike n m (unblocked_on x c l a) (unblocked_on s c l b)
+pub unblocked_by : (n m : ℕ) (x s : State) → AreAlike n m x s → (c : CpuId) (l : LockId) (a b : Bool) → a ≡ b → AreAlike n m (unblocked_on x c l a) (unblocked_on s c l b)
 unblocked_by n m x s h c l a b e = subst (λ z. AreAlike n m (unblocked_on x c l a) (unblocked_on s c l z)) e (by a)
   where
     by : (a : Bool) → AreAlike n m (unblocked_on x c l a) (unblocked_on s c l a)
@@ -149,12 +96,6 @@ unblocked_by n m x s h c l a b e = subst (λ z. AreAlike n m (unblocked_on x c l
     by false = duty_given n m (with_lock x l.0 Free) (with_lock s l.0 Free) (lock_alike n m x s h l.0 Free) c.0 duty.Nothing duty.Nothing refl refl
 
 module _ (n m : ℕ) (x s : State) (h : AreAlike n m x s) where
-  pub unblocked_alike : (w : Work) (c : CpuId) (l : LockId) (u : ℕ) (at : Put) → AreAlike (n + 1) (m + 1) (unblocked w x n c l u at) (unblocked w s m c l u at)
-  unfolding unblocked
-  unblocked_alike w c l u at =
-      let up = woken_alike n m x s h w u at in
-      unblocked_by (n + 1) (m + 1) (woken w x n u at) (woken w s m u at) up c l (has_waiters (woken w x n u at) l.0) (has_waiters (woken w s m u at) l.0) (has_waiters_same (woken w x n u at) (woken w s m u at) up.same l.0)
-
   to_writer_alike : (w : Work) (c : CpuId) (l : LockId) (u : ℕ) (at : Put) → AreAlike (n + 1) (m + 1) (granted_to_writer w x n c l u at) (granted_to_writer w s m c l u at)
   unfolding granted_to_writer
   to_writer_alike w c l u at =
@@ -199,7 +140,7 @@ module _ (n m : ℕ) (x s : State) (h : AreAlike n m x s) where
 
 -- Processors that change their set, and bindings.
 
-cleared_by : (n m : ℕ) (x s : State) → AreAlike n m x s → (d : CpuId) (o p : Option ℕ) → o ≡ p → AreAlike n m (cleared x d o) (cleared s d p)
+pub cleared_by : (n m : ℕ) (x s : State) → AreAlike n m x s → (d : CpuId) (o p : Option ℕ) → o ≡ p → AreAlike n m (cleared x d o) (cleared s d p)
 cleared_by n m x s h d o p e = subst (λ z. AreAlike n m (cleared x d o) (cleared s d z)) e (by o)
   where
     by : (o : Option ℕ) → AreAlike n m (cleared x d o) (cleared s d o)
@@ -211,36 +152,10 @@ called_by n m x s h d (Running c) j = if_alike n m x (set_kernel_mark x c.0) s (
 called_by n m x s h d _ j = h
 
 module _ (n m : ℕ) (x s : State) (h : AreAlike n m x s) where
-  pub assigned_alike : (w : Work) (t : ℕ) (d : CpuId) (at : SetId) (answer : AssignAnswer) → AreAlike n m (assigned w x t d at answer) (assigned w s t d at answer)
-  unfolding assigned
-  assigned_alike w t d at assign.Changed = finish_alike n m _ _ (cleared_by n m _ _ (close_alike n m x s h d at) d (runner x d.0) (runner s d.0) (runner_same x s h.same d.0)) w t
-  assigned_alike w t d at assign.EPERM = finish_alike n m x s h w t
-  assigned_alike w t d at assign.EINVAL = finish_alike n m x s h w t
-  assigned_alike w t d at assign.EBUSY = finish_alike n m x s h w t
-
-  pub moved_alike : (w : Work) (t : ℕ) (at : Put) → AreAlike (n + 1) (m + 1) (moved w x n t at) (moved w s m t at)
-  unfolding moved
-  moved_alike w t at = put_alike n m x s h w t at
-
-  pub joined_alike : (c : CpuId) (at : SetId) → AreAlike n m (joined x c at) (joined s c at)
-  unfolding joined
-  joined_alike c at = join_alike n m x s h c at
-
-  rebound_by : (u : ℕ) (d bound : Option CpuId) → AreAlike n m (rebound x u d bound) (rebound s u d bound)
+  pub rebound_by : (u : ℕ) (d bound : Option CpuId) → AreAlike n m (rebound x u d bound) (rebound s u d bound)
   rebound_by u (Some d) bound =
       let tied = bind_alike n m x s h u d in
       let j = key_or_zero (key_of_place (thread_of s u).place) in
       subst (λ p. AreAlike n m (called_back (bind x u d) d (thread_of x u).place) (called_back (bind s u d) d p)) (sym (place_is n m x s h u)) (called_by n m (bind x u d) (bind s u d) tied d (thread_of x u).place j)
   rebound_by u None (Some b) = unbind_alike n m x s h u b
   rebound_by u None None = h
-
-  pub pbound_alike : (w : Work) (t u : ℕ) (d : Option CpuId) (answer : BindAnswer) → AreAlike (n + 1) (m + 1) (pbound w x n t u d answer) (pbound w s m t u d answer)
-  unfolding pbound
-  pbound_alike w t u d (bind_answer.Changed at) =
-      let tied : AreAlike n m (rebound x u d (thread_of x u).body.bound) (rebound s u d (thread_of s u).body.bound) =
-      subst (λ b. AreAlike n m (rebound x u d (thread_of x u).body.bound) (rebound s u d b.bound)) (body_same x s h.same.bare u) (rebound_by u d (thread_of x u).body.bound) in
-      finish_alike (n + 1) (m + 1) _ _ (put_where_alike n m (rebound x u d (thread_of x u).body.bound) (rebound s u d (thread_of s u).body.bound) tied w u at) w t
-  pbound_alike w t u d bind_answer.ESRCH = alike_later n m _ _ (finish_alike n m x s h w t)
-  pbound_alike w t u d bind_answer.EINVAL = alike_later n m _ _ (finish_alike n m x s h w t)
-  pbound_alike w t u d bind_answer.EPERM = alike_later n m _ _ (finish_alike n m x s h w t)
-  pbound_alike w t u d bind_answer.EBUSY = alike_later n m _ _ (finish_alike n m x s h w t)

@@ -34,7 +34,7 @@ use Rattle.sd_state.specs.declared.states.State.{State}
 use Rattle.sd_state.specs.States.{cpu_of, thread_of, set_of, eff_of}
 use Rattle.sd_state.specs.Operations.{op_of}
 use Rattle.sd_machine.specs.Bodies.{aged_class, eff_as_with, woken_class}
-use Rattle.sd_machine.specs.Conditions.{sema_v_plan}
+use Rattle.sd_machine.specs.Conditions.{sema_p_if, sema_v_plan}
 use Rattle.sd_machine.specs.Dispatching.{dispatch_plan, leave_plan}
 use Rattle.sd_machine.specs.Locking.{enter_event, grant_reader_plan, grant_writer_plan, is_eligible, read_event, unblock_plan, write_event}
 use Rattle.sd_machine.specs.Plans.{ageing_plan, ageing_plan_of, cpu_plan, cpu_plan_of, duty_plan, duty_plan_of, first_of, free_plan_of, nap_plan, op_plan, or_plan, plan, run_plan, run_plan_of}
@@ -245,7 +245,7 @@ module _ (n m : ℕ) (x s : State) (h : AreAlike n m x s) where
   op_by w t (Some (op.Exit l)) = refl
   op_by w t (Some (op.Prio u r)) = prio_by w t u (answer_to w x t u.0 r) ∙ ap (prio_plan w s t u) (answer_same n m x s h w t u.0 r)
   op_by w t (Some (op.CvWait k l)) = refl
-  op_by w t (Some (op.SemaP k)) = ap (λ c. Make (if nat_le 1 c then event.SemaP (thread_id t) k else event.SemaWait (thread_id t) k)) (count_of_same x s h.same k.0)
+  op_by w t (Some (op.SemaP k)) = ap (λ c. Make (sema_p_if (nat_le 1 c) t k)) (count_of_same x s h.same k.0)
   op_by w t (Some (op.SemaV k)) = sema_v_by w t k (best_sleeper x k.0) ∙ ap (sema_v_plan w s t k) (best_sleeper_same x s h.same k.0)
   op_by w t (Some (op.Assign d at)) = ap (λ answer. Make (event.Assign (thread_id t) d at answer)) (assign_same w t d at)
   op_by w t (Some (op.Pbind u d)) = ap (λ answer. Make (event.Bind (thread_id t) u d answer)) (bind_same w t u.0 d)

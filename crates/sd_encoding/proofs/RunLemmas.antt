@@ -43,35 +43,13 @@ module _ (n m : ℕ) (x s : State) (h : AreAlike n m x s) where
       (λ i. is_rivalled (e i) (eff_same x s h.same t i) (ready_same n m x s h c i))
       (mark_given n m (send_back x t) (send_back s t) (send_back_alike n m x s h t) c (priority_or_zero (priority_of x (best_ready x c))) (priority_or_zero (priority_of s (best_ready s c))) (ap priority_or_zero (ready_same n m x s h c))) h
 
-class_counts_alike : (n m : ℕ) (x s : State) → AreAlike n m x s → (w : Work) (c t : ℕ) → AreAlike n m (class_counts w x c t) (class_counts w s c t)
+pub class_counts_alike : (n m : ℕ) (x s : State) → AreAlike n m x s → (w : Work) (c t : ℕ) → AreAlike n m (class_counts w x c t) (class_counts w s c t)
 class_counts_alike n m x s h w c t =
     charge_alike n m (set_class x t (ticked_class w (thread_of x t).body.class)) (set_class s t (ticked_class w (thread_of s t).body.class))
     (class_alike n m x s h t (λ b. ticked_class w b.class)) c t (class_expires (thread_of x t).body.class) (class_expires (thread_of s t).body.class)
     (ap (λ (b : ThreadBody). class_expires b.class) (body_same x s h.same.bare t))
 
 module _ (n m : ℕ) (x s : State) (h : AreAlike n m x s) where
-  pub ticked_alike : (w : Work) (c t : ℕ) → AreAlike n m (ticked w x c t) (ticked w s c t)
-  unfolding ticked
-  ticked_alike w c t =
-      class_counts_alike n m (run_tick w (count_tick w x c) t) (run_tick w (count_tick w s c) t)
-      (run_tick_alike n m (count_tick w x c) (count_tick w s c) (count_alike n m x s h w c) w t) w c t
-
-  pub spun_alike : (w : Work) (c t : ℕ) → AreAlike n m (spun w x c t) (spun w s c t)
-  unfolding spun
-  spun_alike w c t = class_counts_alike n m (count_tick w x c) (count_tick w s c) (count_alike n m x s h w c) w c t
-
-  pub idled_alike : (w : Work) (c : ℕ) → AreAlike n m (idled w x c) (idled w s c)
-  unfolding idled
-  idled_alike w c = count_alike n m x s h w c
-
-  pub dispatched_alike : (c : CpuId) (t : ℕ) → AreAlike n m (dispatched x c t) (dispatched s c t)
-  unfolding dispatched
-  dispatched_alike c t = run_alike n m (clear_marks x c.0) (clear_marks s c.0) (clear_alike n m x s h c.0) t c
-
-  pub stolen_alike : (c : CpuId) (t : ℕ) → AreAlike n m (stolen x c t) (stolen s c t)
-  unfolding stolen
-  stolen_alike c t = run_alike n m x s h t c
-
   pub preempted_alike : (w : Work) (c : CpuId) (t : ℕ) (end : End) → AreAlike (n + 1) (m + 1) (preempted w x n c t end) (preempted w s m c t end)
   unfolding preempted
   preempted_alike w c t end =
@@ -83,24 +61,6 @@ module _ (n m : ℕ) (x s : State) (h : AreAlike n m x s) where
   sent_away_alike c t d =
       let left = leave_alike n m x s h c t (to.Queue d end.Back) in
       mark_over_alike (n + 1) (m + 1) _ _ left d.0 (eff_of x t) (eff_of s t) (eff_same x s h.same t)
-
-  pub yielded_alike : (w : Work) (c : CpuId) (t : ℕ) → AreAlike (n + 1) (m + 1) (yielded w x n c t) (yielded w s m c t)
-  unfolding yielded
-  yielded_alike w c t = finish_alike (n + 1) (m + 1) _ _ (requeue_alike n m x s h w c t end.Back (thread_of x t).body (thread_of s t).body (body_same x s h.same.bare t)) w t
-
-  pub done_alike : (c : CpuId) (t : ℕ) → AreAlike (n + 1) (m + 1) (done x c t) (done s c t)
-  unfolding done
-  done_alike c t = leave_alike n m x s h c t to.Nowhere
-
-  pub napped_alike : (w : Work) (c : CpuId) (t : ℕ) → AreAlike (n + 1) (m + 1) (napped w x c t) (napped w s c t)
-  unfolding napped
-  napped_alike w c t =
-      finish_alike (n + 1) (m + 1) _ _ (leave_given n m x s h c t (to.Nap ((cpu_of x c.0).count + nap_ticks (op_of w t (thread_of x t).body))) (to.Nap ((cpu_of s c.0).count + nap_ticks (op_of w t (thread_of s t).body)))
-      (λ i. to.Nap (count_same x s h.same c.0 i + nap_ticks (op_of w t (body_same x s h.same.bare t i))))) w t
-
-  pub asleep_alike : (w : Work) (c : CpuId) (t : ℕ) (k : ChanId) → AreAlike (n + 1) (m + 1) (fallen_asleep w x n c t k) (fallen_asleep w s m c t k)
-  unfolding fallen_asleep
-  asleep_alike w c t k = finish_alike (n + 1) (m + 1) _ _ (leave_alike n m x s h c t (to.SleepQueue k)) w t
 
   pub aged_alike : (w : Work) (c : CpuId) (t : ℕ) → AreAlike (n + 1) (m + 1) (aged w x n c t) (aged w s m c t)
   unfolding aged

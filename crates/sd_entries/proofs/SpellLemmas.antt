@@ -1,63 +1,54 @@
 -- An entry's line is its words with single spaces between them, and a newline.
 use Rattle.std.proofs.Common.{◌≡◌, ℕ, List, [], ◌∷◌, ◌++◌, Option, Some, None, append_assoc, refl, sym, ap, ◌∙◌}
 use Rattle.std.specs.Prelude.{codes}
-use Rattle.std.specs.List.{join_with_byte}
+use Rattle.std.specs.List.{flat_map, join_with_byte}
 use Rattle.std.specs.Fmt.{decimal}
 use Rattle.std.proofs.lemmas.List.{append-nil}
 use Rattle.sd_types.specs.declared.events.Event.{Event}
-use Rattle.sd_types.specs.declared.events.Event.TheVariants.{Tick, Idle, Preempt, Yield, Done, Nap, Napend, Wake, Rouse, Will, End as WalkEnd, Unblock, Grant, Passed, Prio, SemaVWake, Assign, Move, Joined, Bind}
-use Rattle.sd_types.specs.declared.events.End.TheVariants.{Front}
-use Rattle.sd_types.specs.declared.events.Put.TheVariants.{Cpu}
+use Rattle.sd_types.specs.declared.events.End.TheVariants.{Front, Back}
+use Rattle.sd_types.specs.declared.events.Put.TheVariants.{Cpu, RealTime as OnRealTime}
 use Rattle.sd_types.specs.declared.events.Hints.{Hints}
 use Rattle.sd_types.specs.declared.events.PrioAnswer.TheVariants as prio
-use Rattle.sd_types.specs.declared.events.AssignAnswer.TheVariants as assign
 use Rattle.sd_types.specs.declared.events.BindAnswer.TheVariants as bind
 use Rattle.sd_types.specs.declared.events.Entry.{Entry}
 use Rattle.sd_types.specs.declared.works.Work.{Work}
 use Rattle.sd_state.specs.Texts.{thread_name}
-use Rattle.sd_machine.specs.Texts.{word_thread, word_lock, set_name, assign_text, bind_text, cpu_text, cpu_text_if, put_text, event_text, hints_text, entry_text}
-use Rattle.sd_entries.specs.EntryWords.{event_words, hint_words, entry_words}
+use Rattle.sd_machine.specs.Names.{Name, names, OfThread, AtEnd, At, AtIf, Whom, ByPrio, ByBind, Off}
+use Rattle.sd_machine.specs.Texts.{cpu_text, with_name, text_with, event_text, hints_text, entry_text}
+use Rattle.sd_entries.specs.EntryWords.{name_words, event_words, hint_words, entry_words}
 
-two : (t u x : List ℕ) → t ++ codes " " ++ u ++ codes " " ++ x ≡ t ++ (32 ∷ (u ++ (32 ∷ x)))
-two t u x =
-    append_assoc (t ++ codes " " ++ u) (codes " ") x ∙ append_assoc (t ++ codes " ") u (codes " " ++ x) ∙ append_assoc t (codes " ") (u ++ (codes " " ++ x))
+-- a text with a name behind it is the text and the words of the name
+name_spelled : (w : Work) (text : List ℕ) (x : Name) → with_name w text x ≡ join_with_byte 32 (text ∷ name_words w x)
+name_spelled w text (OfThread t) = append_assoc text (codes " ") (thread_name w t.0)
+name_spelled w text (AtEnd Front) = refl
+name_spelled w text (AtEnd Back) = refl
+name_spelled w text (At (Cpu x)) = refl
+name_spelled w text (At (OnRealTime x)) = refl
+name_spelled w text (AtIf None) = append-nil text
+name_spelled w text (AtIf (Some (Cpu x))) = refl
+name_spelled w text (AtIf (Some (OnRealTime x))) = refl
+name_spelled w text (Whom (Some (s, (Cpu x)))) = append_assoc text (codes " ") _
+name_spelled w text (ByPrio (prio.Changed p None)) = append_assoc text (codes " ") _ ∙ ap (λ (number : List ℕ). text ++ (codes " ok " ++ number)) (append-nil (decimal p))
+name_spelled w text (ByPrio (prio.Changed p (Some (Cpu x)))) = append_assoc text (codes " ") _
+name_spelled w text (ByPrio (prio.Changed p (Some (OnRealTime x)))) = append_assoc text (codes " ") _
+name_spelled w text (ByBind (bind.Changed (Some (Cpu x)))) = append_assoc text (codes " ") _
+name_spelled w text (Off d) = append_assoc text (codes " away ") (cpu_text d)
+name_spelled w text x = append_assoc text (codes " ") _
 
-three : (t u v x : List ℕ) → t ++ codes " " ++ u ++ codes " " ++ v ++ codes " " ++ x ≡ t ++ (32 ∷ (u ++ (32 ∷ (v ++ (32 ∷ x)))))
-three t u v x =
-    two (t ++ codes " " ++ u) v x ∙ append_assoc (t ++ codes " ") u (32 ∷ (v ++ (32 ∷ x))) ∙ append_assoc t (codes " ") (u ++ (32 ∷ (v ++ (32 ∷ x))))
+join_joined : (t : List ℕ) (ws rest : List (List ℕ)) → join_with_byte 32 (join_with_byte 32 (t ∷ ws) ∷ rest) ≡ join_with_byte 32 (t ∷ (ws ++ rest))
+join_joined t [] [] = refl
+join_joined t [] (r ∷ rs) = refl
+join_joined t (v ∷ vs) [] = ap (λ (zs : List (List ℕ)). join_with_byte 32 (t ∷ zs)) (sym (append-nil (v ∷ vs)))
+join_joined t (v ∷ vs) (r ∷ rs) = append_assoc t (32 ∷ join_with_byte 32 (v ∷ vs)) (32 ∷ join_with_byte 32 (r ∷ rs)) ∙ ap (λ (text : List ℕ). t ++ (32 ∷ text)) (join_joined v vs (r ∷ rs))
 
-prio_pieces : (t u p q : List ℕ) → (codes "prio" ++ codes " " ++ t ++ codes " " ++ u) ++ codes " " ++ (codes "ok " ++ p ++ q)
-    ≡ codes "prio" ++ (32 ∷ (t ++ (32 ∷ (u ++ (32 ∷ (codes "ok" ++ (32 ∷ (p ++ q))))))))
-prio_pieces t u p q = ap (λ (text : List ℕ). codes "prio " ++ text) (two t u (codes "ok " ++ p ++ q))
+names_spelled : (w : Work) (text : List ℕ) (xs : List Name) → text_with w text xs ≡ join_with_byte 32 (text ∷ flat_map (name_words w) xs)
+names_spelled w text [] = refl
+names_spelled w text (x ∷ xs) =
+    let rest = flat_map (name_words w) xs in
+    names_spelled w (with_name w text x) xs ∙ ap (λ (t : List ℕ). join_with_byte 32 (t ∷ rest)) (name_spelled w text x) ∙ join_joined text (name_words w x) rest
 
 event_spelled : (w : Work) (e : Event) → event_text w e ≡ join_with_byte 32 (event_words w e)
-event_spelled w (Tick t) = refl
-event_spelled w Idle = refl
-event_spelled w (Preempt t Front) = simp append_assoc
-event_spelled w (Yield t) = refl
-event_spelled w (Done t) = refl
-event_spelled w (Nap t) = refl
-event_spelled w (Napend t (Cpu x)) = simp append_assoc
-event_spelled w (Wake t k (Some (s, (Cpu x)))) = simp append_assoc
-event_spelled w (Rouse k (Some (s, (Cpu x)))) = simp append_assoc
-event_spelled w (Will l o p None) = append-nil (word_thread w (word_lock w (codes "will") l) o ++ codes " " ++ decimal p) ∙ simp append_assoc
-event_spelled w (Will l o p (Some (Cpu x))) = simp append_assoc
-event_spelled w (WalkEnd l) = refl
-event_spelled w (Unblock l u (Cpu x)) = simp append_assoc
-event_spelled w (Grant l u (Cpu x)) = simp append_assoc
-event_spelled w (Passed l) = refl
-event_spelled w (Prio t u (prio.Changed p None)) =
-    prio_pieces (thread_name w t.0) (thread_name w u.0) (decimal p) []
-    ∙ ap (λ (text : List ℕ). codes "prio" ++ (32 ∷ (thread_name w t.0 ++ (32 ∷ (thread_name w u.0 ++ (32 ∷ (codes "ok" ++ (32 ∷ text)))))))) (append-nil (decimal p))
-event_spelled w (Prio t u (prio.Changed p (Some (Cpu x)))) = prio_pieces (thread_name w t.0) (thread_name w u.0) (decimal p) (put_text (Cpu x))
-event_spelled w (Prio t u (prio.Changed p (Some at))) = prio_pieces (thread_name w t.0) (thread_name w u.0) (decimal p) (put_text at)
-event_spelled w (SemaVWake t k u (Cpu x)) = simp append_assoc
-event_spelled w (Assign t d to answer) = ap (λ (text : List ℕ). codes "assign " ++ text) (three (thread_name w t.0) (cpu_text d) (set_name w to.0) (assign_text answer))
-event_spelled w (Move t (Cpu x)) = simp append_assoc
-event_spelled w (Joined to) = refl
-event_spelled w (Bind t u d (bind.Changed (Some (Cpu x)))) = ap (λ (text : List ℕ). codes "pbind " ++ text) (three (thread_name w t.0) (thread_name w u.0) (cpu_text_if d) (bind_text (bind.Changed (Some (Cpu x)))))
-event_spelled w (Bind t u d answer) = ap (λ (text : List ℕ). codes "pbind " ++ text) (three (thread_name w t.0) (thread_name w u.0) (cpu_text_if d) (bind_text answer))
-event_spelled w e = simp append_assoc
+event_spelled w e = names_spelled w (names e).0 (names e).1
 
 -- hints behind words
 join_hints : (x : List ℕ) (xs : List (List ℕ)) (hs : Option Hints) → join_with_byte 32 (x ∷ (xs ++ hint_words hs)) ≡ join_with_byte 32 (x ∷ xs) ++ hints_text hs

@@ -1,13 +1,14 @@
 -- Each word of an entry's line is one word, and stands in one line.
-use Rattle.std.proofs.Common.{◌≡◌, ℕ, ◌<◌, ◌^◌, Bool, true, false, not, ◌&&◌, ltb, nat_lt, List, [], ◌∷◌, ◌++◌, length, Option, Some, None, refl, arith}
+use Rattle.std.proofs.Common.{◌≡◌, ℕ, ◌<◌, ◌^◌, Bool, true, not, ◌&&◌, ltb, nat_lt, List, [], ◌∷◌, ◌++◌, length, Option, Some, None, refl, arith}
 use Rattle.std.specs.Prelude.{codes}
-use Rattle.std.specs.List.{list_all, AllByRecursion, join_with_byte}
+use Rattle.std.specs.List.{list_all, flat_map, AllByRecursion, join_with_byte}
 use Rattle.std.specs.Fmt.{decimal}
 use Rattle.std.proofs.lemmas.Bool.{false≢true, lt-ltb, and_from, and_parts}
 use Rattle.std.proofs.lemmas.Bool.Decides.{nat_tests}
 use Rattle.sd_types.specs.declared.events.Event.{Event}
-use Rattle.sd_types.specs.declared.events.Event.TheVariants.{Tick, Spin, Idle, Dispatch, Steal, Preempt, Yield, Done, Nap, Napend, Sleep, Wake, Wakeall, Rouse, Enter, Read, Write, Block, Will, End as WalkEnd, Exit, Unblock, Grant, Passed, Age, Prio, CvWait, SemaP, SemaWait, SemaVWake, SemaVCount, Assign, Move, Joined, Bind, Away}
+use Rattle.sd_types.specs.declared.events.Event.TheVariants.{Tick}
 use Rattle.sd_types.specs.declared.events.End.TheVariants.{Front, Back}
+use Rattle.sd_types.specs.declared.events.Put.{Put}
 use Rattle.sd_types.specs.declared.events.Put.TheVariants.{Cpu, RealTime as OnRealTime}
 use Rattle.sd_types.specs.declared.events.Hints.{Hints}
 use Rattle.sd_types.specs.declared.events.Which.{Which}
@@ -19,9 +20,10 @@ use Rattle.sd_types.specs.declared.events.Entry.{Entry}
 use Rattle.sd_types.specs.declared.works.Work.{Work}
 use Rattle.sd_text.specs.Lines.{is_newline, is_line}
 use Rattle.sd_text.specs.Words.{ends_word, is_word}
+use Rattle.sd_machine.specs.Names.{Name, names, OfThread, OfLock, OfChan, OfCpu, OfCpuIf, OfSet, Priority, Count, AtEnd, At, AtIf, Whom, ByPrio, ByAssign, ByBind, Off}
 use Rattle.sd_machine.specs.Texts.{numbers_text}
-use Rattle.sd_entries.specs.EntryWords.{event_words, hint_words, entry_words}
-use Rattle.sd_entries.specs.Fitting.{has_cpu, is_byte, event_fits, event_in_range, may_read, are_allowed_hints, hints_in_range, entry_fits, in_range, IsSpelled}
+use Rattle.sd_entries.specs.EntryWords.{put_words, put_words_if, name_words, event_words, hint_words, entry_words}
+use Rattle.sd_entries.specs.Fitting.{has_cpu, has_thread, is_byte, put_fits, put_fits_if, name_fits, event_fits, name_in_range, event_in_range, may_read, are_allowed_hints, hints_in_range, entry_fits, in_range, IsSpelled}
 use Rattle.sd_entries.proofs.NameLemmas.{byte_word}
 use Rattle.sd_entries.proofs.PlainLemmas.{IsPlain, number_plain, thread_plain, lock_plain, chan_plain, set_plain, cpu_plain, byte_plain, count_plain}
 
@@ -40,77 +42,61 @@ words_join : (xs ys : List (List ℕ)) → AreWords xs → AreWords ys → AreWo
 words_join [] ys h k = k
 words_join (x ∷ xs) ys h k = (h.0, words_join xs ys h.1 k)
 
+-- what an event names
+
+put_plain : (w : Work) (at : Put) → put_fits w at ≡ true → AreWords (put_words at)
+put_plain w (Cpu x) h = ((refl, refl), (cpu_plain w x h, tt))
+put_plain w (OnRealTime x) h = ((refl, refl), (cpu_plain w x h, tt))
+
+put_plain_if : (w : Work) (at : Option Put) → put_fits_if w at ≡ true → AreWords (put_words_if at)
+put_plain_if w None h = tt
+put_plain_if w (Some at) h = put_plain w at h
+
+name_plain : (w : Work) (x : Name) → name_fits w x ≡ true → name_in_range x ≡ true → AreWords (name_words w x)
+name_plain w (OfThread t) h r = (thread_plain w t h, tt)
+name_plain w (OfLock l) h r = (lock_plain w l h, tt)
+name_plain w (OfChan k) h r = (chan_plain w k h, tt)
+name_plain w (OfCpu d) h r = (cpu_plain w d h, tt)
+name_plain w (OfCpuIf None) h r = ((refl, refl), tt)
+name_plain w (OfCpuIf (Some d)) h r = (cpu_plain w d h, tt)
+name_plain w (OfSet p) h r = (set_plain w p h, tt)
+name_plain w (Priority p) h r = (byte_plain p r, tt)
+name_plain w (Count n) h r = (count_plain n r, tt)
+name_plain w (AtEnd Front) h r = ((refl, refl), tt)
+name_plain w (AtEnd Back) h r = ((refl, refl), tt)
+name_plain w (At at) h r = put_plain w at h
+name_plain w (AtIf at) h r = put_plain_if w at h
+name_plain w (Whom None) h r = ((refl, refl), tt)
+name_plain w (Whom (Some (s, at))) h r = let p = and_parts (has_thread w s) (put_fits w at) h in (thread_plain w s p.0, put_plain w at p.1)
+name_plain w (ByPrio (prio.Changed p at)) h r = ((refl, refl), (byte_plain p r, put_plain_if w at h))
+name_plain w (ByPrio (prio.Refused denied.ESRCH)) h r = ((refl, refl), tt)
+name_plain w (ByPrio (prio.Refused denied.EINVAL)) h r = ((refl, refl), tt)
+name_plain w (ByPrio (prio.Refused denied.EPERM)) h r = ((refl, refl), tt)
+name_plain w (ByAssign assign.Changed) h r = ((refl, refl), tt)
+name_plain w (ByAssign assign.EPERM) h r = ((refl, refl), tt)
+name_plain w (ByAssign assign.EINVAL) h r = ((refl, refl), tt)
+name_plain w (ByAssign assign.EBUSY) h r = ((refl, refl), tt)
+name_plain w (ByBind (bind.Changed at)) h r = ((refl, refl), put_plain_if w at h)
+name_plain w (ByBind bind.ESRCH) h r = ((refl, refl), tt)
+name_plain w (ByBind bind.EINVAL) h r = ((refl, refl), tt)
+name_plain w (ByBind bind.EPERM) h r = ((refl, refl), tt)
+name_plain w (ByBind bind.EBUSY) h r = ((refl, refl), tt)
+name_plain w (Off d) h r = ((refl, refl), (cpu_plain w d h, tt))
+
+names_plain : (w : Work) (xs : List Name) → list_all (name_fits w) xs ≡ true → list_all name_in_range xs ≡ true → AreWords (flat_map (name_words w) xs)
+names_plain w [] h r = tt
+names_plain w (x ∷ xs) h r =
+    let p = and_parts (name_fits w x) (list_all (name_fits w) xs) h in
+    let q = and_parts (name_in_range x) (list_all name_in_range xs) r in
+    words_join (name_words w x) (flat_map (name_words w) xs) (name_plain w x p.0 q.0) (names_plain w xs p.1 q.1)
+
+word_plain : (e : Event) → IsPlain (names e).0
+word_plain (Tick t) = (refl, refl)
+word_plain _ = (refl, refl)
+
 event_are_words : (w : Work) (e : Event) → event_fits w e ≡ true → event_in_range e ≡ true → AreWords (event_words w e)
 unfolding event_fits
-event_are_words w (Tick t) h r = ((refl, refl), (thread_plain w t h, tt))
-event_are_words w (Spin t l) h r = let q2 = and_parts _ _ h in ((refl, refl), (thread_plain w t q2.0, (lock_plain w l q2.1, tt)))
-event_are_words w Idle h r = ((refl, refl), tt)
-event_are_words w (Dispatch t p) h r = ((refl, refl), (thread_plain w t h, (byte_plain p r, tt)))
-event_are_words w (Steal v t p) h r = let q2 = and_parts _ _ h in ((refl, refl), (cpu_plain w v q2.0, (thread_plain w t q2.1, (byte_plain p r, tt))))
-event_are_words w (Preempt t Front) h r = ((refl, refl), (thread_plain w t h, ((refl, refl), tt)))
-event_are_words w (Preempt t Back) h r = ((refl, refl), (thread_plain w t h, ((refl, refl), tt)))
-event_are_words w (Yield t) h r = ((refl, refl), (thread_plain w t h, tt))
-event_are_words w (Done t) h r = ((refl, refl), (thread_plain w t h, tt))
-event_are_words w (Nap t) h r = ((refl, refl), (thread_plain w t h, tt))
-event_are_words w (Napend t (Cpu x)) h r = let q2 = and_parts _ _ h in ((refl, refl), (thread_plain w t q2.0, ((refl, refl), (cpu_plain w x q2.1, tt))))
-event_are_words w (Napend t (OnRealTime x)) h r = let q2 = and_parts _ _ h in ((refl, refl), (thread_plain w t q2.0, ((refl, refl), (cpu_plain w x q2.1, tt))))
-event_are_words w (Sleep t k) h r = let q2 = and_parts _ _ h in ((refl, refl), (thread_plain w t q2.0, (chan_plain w k q2.1, tt)))
-event_are_words w (Wake t k None) h r = let q3 = and_parts _ _ h in let q2 = and_parts _ _ q3.0 in ((refl, refl), (thread_plain w t q2.0, (chan_plain w k q2.1, ((refl, refl), tt))))
-event_are_words w (Wake t k (Some (s, (Cpu x)))) h r = let q3 = and_parts _ _ h in let s12 = and_parts _ _ q3.1 in let q2 = and_parts _ _ q3.0 in ((refl, refl), (thread_plain w t q2.0, (chan_plain w k q2.1, (thread_plain w s s12.0, ((refl, refl), (cpu_plain w x s12.1, tt))))))
-event_are_words w (Wake t k (Some (s, (OnRealTime x)))) h r = let q3 = and_parts _ _ h in let s12 = and_parts _ _ q3.1 in let q2 = and_parts _ _ q3.0 in ((refl, refl), (thread_plain w t q2.0, (chan_plain w k q2.1, (thread_plain w s s12.0, ((refl, refl), (cpu_plain w x s12.1, tt))))))
-event_are_words w (Wakeall t k) h r = let q2 = and_parts _ _ h in ((refl, refl), (thread_plain w t q2.0, (chan_plain w k q2.1, tt)))
-event_are_words w (Rouse k None) h r = let q2 = and_parts _ _ h in ((refl, refl), (chan_plain w k q2.0, ((refl, refl), tt)))
-event_are_words w (Rouse k (Some (s, (Cpu x)))) h r = let q2 = and_parts _ _ h in let s12 = and_parts _ _ q2.1 in ((refl, refl), (chan_plain w k q2.0, (thread_plain w s s12.0, ((refl, refl), (cpu_plain w x s12.1, tt)))))
-event_are_words w (Rouse k (Some (s, (OnRealTime x)))) h r = let q2 = and_parts _ _ h in let s12 = and_parts _ _ q2.1 in ((refl, refl), (chan_plain w k q2.0, (thread_plain w s s12.0, ((refl, refl), (cpu_plain w x s12.1, tt)))))
-event_are_words w (Enter t l) h r = let q2 = and_parts _ _ h in ((refl, refl), (thread_plain w t q2.0, (lock_plain w l q2.1, tt)))
-event_are_words w (Read t l) h r = let q2 = and_parts _ _ h in ((refl, refl), (thread_plain w t q2.0, (lock_plain w l q2.1, tt)))
-event_are_words w (Write t l) h r = let q2 = and_parts _ _ h in ((refl, refl), (thread_plain w t q2.0, (lock_plain w l q2.1, tt)))
-event_are_words w (Block t l) h r = let q2 = and_parts _ _ h in ((refl, refl), (thread_plain w t q2.0, (lock_plain w l q2.1, tt)))
-event_are_words w (Will l o p None) h r = let q3 = and_parts _ _ h in let q2 = and_parts _ _ q3.0 in ((refl, refl), (lock_plain w l q2.0, (thread_plain w o q2.1, (byte_plain p r, tt))))
-event_are_words w (Will l o p (Some (Cpu x))) h r = let q3 = and_parts _ _ h in let q2 = and_parts _ _ q3.0 in ((refl, refl), (lock_plain w l q2.0, (thread_plain w o q2.1, (byte_plain p r, ((refl, refl), (cpu_plain w x q3.1, tt))))))
-event_are_words w (Will l o p (Some (OnRealTime x))) h r = let q3 = and_parts _ _ h in let q2 = and_parts _ _ q3.0 in ((refl, refl), (lock_plain w l q2.0, (thread_plain w o q2.1, (byte_plain p r, ((refl, refl), (cpu_plain w x q3.1, tt))))))
-event_are_words w (WalkEnd l) h r = ((refl, refl), (lock_plain w l h, tt))
-event_are_words w (Exit t l) h r = let q2 = and_parts _ _ h in ((refl, refl), (thread_plain w t q2.0, (lock_plain w l q2.1, tt)))
-event_are_words w (Unblock l u (Cpu x)) h r = let q3 = and_parts _ _ h in let q2 = and_parts _ _ q3.0 in ((refl, refl), (lock_plain w l q2.0, (thread_plain w u q2.1, ((refl, refl), (cpu_plain w x q3.1, tt)))))
-event_are_words w (Unblock l u (OnRealTime x)) h r = let q3 = and_parts _ _ h in let q2 = and_parts _ _ q3.0 in ((refl, refl), (lock_plain w l q2.0, (thread_plain w u q2.1, ((refl, refl), (cpu_plain w x q3.1, tt)))))
-event_are_words w (Grant l u (Cpu x)) h r = let q3 = and_parts _ _ h in let q2 = and_parts _ _ q3.0 in ((refl, refl), (lock_plain w l q2.0, (thread_plain w u q2.1, ((refl, refl), (cpu_plain w x q3.1, tt)))))
-event_are_words w (Grant l u (OnRealTime x)) h r = let q3 = and_parts _ _ h in let q2 = and_parts _ _ q3.0 in ((refl, refl), (lock_plain w l q2.0, (thread_plain w u q2.1, ((refl, refl), (cpu_plain w x q3.1, tt)))))
-event_are_words w (Passed l) h r = ((refl, refl), (lock_plain w l h, tt))
-event_are_words w (Age t p) h r = ((refl, refl), (thread_plain w t h, (byte_plain p r, tt)))
-event_are_words w (Prio t u (prio.Changed p None)) h r = let q3 = and_parts _ _ h in let q2 = and_parts _ _ q3.0 in ((refl, refl), (thread_plain w t q2.0, (thread_plain w u q2.1, ((refl, refl), (byte_plain p r, tt)))))
-event_are_words w (Prio t u (prio.Changed p (Some (Cpu x)))) h r = let q3 = and_parts _ _ h in let q2 = and_parts _ _ q3.0 in ((refl, refl), (thread_plain w t q2.0, (thread_plain w u q2.1, ((refl, refl), (byte_plain p r, ((refl, refl), (cpu_plain w x q3.1, tt)))))))
-event_are_words w (Prio t u (prio.Changed p (Some (OnRealTime x)))) h r = let q3 = and_parts _ _ h in let q2 = and_parts _ _ q3.0 in ((refl, refl), (thread_plain w t q2.0, (thread_plain w u q2.1, ((refl, refl), (byte_plain p r, ((refl, refl), (cpu_plain w x q3.1, tt)))))))
-event_are_words w (Prio t u (prio.Refused denied.ESRCH)) h r = let q3 = and_parts _ _ h in let q2 = and_parts _ _ q3.0 in ((refl, refl), (thread_plain w t q2.0, (thread_plain w u q2.1, ((refl, refl), tt))))
-event_are_words w (Prio t u (prio.Refused denied.EINVAL)) h r = let q3 = and_parts _ _ h in let q2 = and_parts _ _ q3.0 in ((refl, refl), (thread_plain w t q2.0, (thread_plain w u q2.1, ((refl, refl), tt))))
-event_are_words w (Prio t u (prio.Refused denied.EPERM)) h r = let q3 = and_parts _ _ h in let q2 = and_parts _ _ q3.0 in ((refl, refl), (thread_plain w t q2.0, (thread_plain w u q2.1, ((refl, refl), tt))))
-event_are_words w (CvWait t k l) h r = let q3 = and_parts _ _ h in let q2 = and_parts _ _ q3.0 in ((refl, refl), (thread_plain w t q2.0, (chan_plain w k q2.1, (lock_plain w l q3.1, tt))))
-event_are_words w (SemaP t k) h r = let q2 = and_parts _ _ h in ((refl, refl), (thread_plain w t q2.0, (chan_plain w k q2.1, tt)))
-event_are_words w (SemaWait t k) h r = let q2 = and_parts _ _ h in ((refl, refl), (thread_plain w t q2.0, (chan_plain w k q2.1, tt)))
-event_are_words w (SemaVWake t k u (Cpu x)) h r = let q4 = and_parts _ _ h in let q3 = and_parts _ _ q4.0 in let q2 = and_parts _ _ q3.0 in ((refl, refl), (thread_plain w t q2.0, (chan_plain w k q2.1, (thread_plain w u q3.1, ((refl, refl), (cpu_plain w x q4.1, tt))))))
-event_are_words w (SemaVWake t k u (OnRealTime x)) h r = let q4 = and_parts _ _ h in let q3 = and_parts _ _ q4.0 in let q2 = and_parts _ _ q3.0 in ((refl, refl), (thread_plain w t q2.0, (chan_plain w k q2.1, (thread_plain w u q3.1, ((refl, refl), (cpu_plain w x q4.1, tt))))))
-event_are_words w (SemaVCount t k n) h r = let q2 = and_parts _ _ h in ((refl, refl), (thread_plain w t q2.0, (chan_plain w k q2.1, (count_plain n r, tt))))
-event_are_words w (Assign t d to assign.Changed) h r = let q3 = and_parts _ _ h in let q2 = and_parts _ _ q3.0 in ((refl, refl), (thread_plain w t q2.0, (cpu_plain w d q2.1, (set_plain w to q3.1, ((refl, refl), tt)))))
-event_are_words w (Assign t d to assign.EPERM) h r = let q3 = and_parts _ _ h in let q2 = and_parts _ _ q3.0 in ((refl, refl), (thread_plain w t q2.0, (cpu_plain w d q2.1, (set_plain w to q3.1, ((refl, refl), tt)))))
-event_are_words w (Assign t d to assign.EINVAL) h r = let q3 = and_parts _ _ h in let q2 = and_parts _ _ q3.0 in ((refl, refl), (thread_plain w t q2.0, (cpu_plain w d q2.1, (set_plain w to q3.1, ((refl, refl), tt)))))
-event_are_words w (Assign t d to assign.EBUSY) h r = let q3 = and_parts _ _ h in let q2 = and_parts _ _ q3.0 in ((refl, refl), (thread_plain w t q2.0, (cpu_plain w d q2.1, (set_plain w to q3.1, ((refl, refl), tt)))))
-event_are_words w (Move t (Cpu x)) h r = let q2 = and_parts _ _ h in ((refl, refl), (thread_plain w t q2.0, ((refl, refl), (cpu_plain w x q2.1, tt))))
-event_are_words w (Move t (OnRealTime x)) h r = let q2 = and_parts _ _ h in ((refl, refl), (thread_plain w t q2.0, ((refl, refl), (cpu_plain w x q2.1, tt))))
-event_are_words w (Joined to) h r = ((refl, refl), (set_plain w to h, tt))
-event_are_words w (Bind t u None (bind.Changed None)) h r = let q4 = and_parts _ _ h in let q3 = and_parts _ _ q4.0 in let q2 = and_parts _ _ q3.0 in ((refl, refl), (thread_plain w t q2.0, (thread_plain w u q2.1, ((refl, refl), ((refl, refl), tt)))))
-event_are_words w (Bind t u None (bind.Changed (Some (Cpu x)))) h r = let q4 = and_parts _ _ h in let q3 = and_parts _ _ q4.0 in let q2 = and_parts _ _ q3.0 in ((refl, refl), (thread_plain w t q2.0, (thread_plain w u q2.1, ((refl, refl), ((refl, refl), ((refl, refl), (cpu_plain w x q4.1, tt)))))))
-event_are_words w (Bind t u None (bind.Changed (Some (OnRealTime x)))) h r = let q4 = and_parts _ _ h in let q3 = and_parts _ _ q4.0 in let q2 = and_parts _ _ q3.0 in ((refl, refl), (thread_plain w t q2.0, (thread_plain w u q2.1, ((refl, refl), ((refl, refl), ((refl, refl), (cpu_plain w x q4.1, tt)))))))
-event_are_words w (Bind t u None bind.ESRCH) h r = let q4 = and_parts _ _ h in let q3 = and_parts _ _ q4.0 in let q2 = and_parts _ _ q3.0 in ((refl, refl), (thread_plain w t q2.0, (thread_plain w u q2.1, ((refl, refl), ((refl, refl), tt)))))
-event_are_words w (Bind t u None bind.EINVAL) h r = let q4 = and_parts _ _ h in let q3 = and_parts _ _ q4.0 in let q2 = and_parts _ _ q3.0 in ((refl, refl), (thread_plain w t q2.0, (thread_plain w u q2.1, ((refl, refl), ((refl, refl), tt)))))
-event_are_words w (Bind t u None bind.EPERM) h r = let q4 = and_parts _ _ h in let q3 = and_parts _ _ q4.0 in let q2 = and_parts _ _ q3.0 in ((refl, refl), (thread_plain w t q2.0, (thread_plain w u q2.1, ((refl, refl), ((refl, refl), tt)))))
-event_are_words w (Bind t u None bind.EBUSY) h r = let q4 = and_parts _ _ h in let q3 = and_parts _ _ q4.0 in let q2 = and_parts _ _ q3.0 in ((refl, refl), (thread_plain w t q2.0, (thread_plain w u q2.1, ((refl, refl), ((refl, refl), tt)))))
-event_are_words w (Bind t u (Some d) (bind.Changed None)) h r = let q4 = and_parts _ _ h in let q3 = and_parts _ _ q4.0 in let q2 = and_parts _ _ q3.0 in ((refl, refl), (thread_plain w t q2.0, (thread_plain w u q2.1, (cpu_plain w d q3.1, ((refl, refl), tt)))))
-event_are_words w (Bind t u (Some d) (bind.Changed (Some (Cpu x)))) h r = let q4 = and_parts _ _ h in let q3 = and_parts _ _ q4.0 in let q2 = and_parts _ _ q3.0 in ((refl, refl), (thread_plain w t q2.0, (thread_plain w u q2.1, (cpu_plain w d q3.1, ((refl, refl), ((refl, refl), (cpu_plain w x q4.1, tt)))))))
-event_are_words w (Bind t u (Some d) (bind.Changed (Some (OnRealTime x)))) h r = let q4 = and_parts _ _ h in let q3 = and_parts _ _ q4.0 in let q2 = and_parts _ _ q3.0 in ((refl, refl), (thread_plain w t q2.0, (thread_plain w u q2.1, (cpu_plain w d q3.1, ((refl, refl), ((refl, refl), (cpu_plain w x q4.1, tt)))))))
-event_are_words w (Bind t u (Some d) bind.ESRCH) h r = let q4 = and_parts _ _ h in let q3 = and_parts _ _ q4.0 in let q2 = and_parts _ _ q3.0 in ((refl, refl), (thread_plain w t q2.0, (thread_plain w u q2.1, (cpu_plain w d q3.1, ((refl, refl), tt)))))
-event_are_words w (Bind t u (Some d) bind.EINVAL) h r = let q4 = and_parts _ _ h in let q3 = and_parts _ _ q4.0 in let q2 = and_parts _ _ q3.0 in ((refl, refl), (thread_plain w t q2.0, (thread_plain w u q2.1, (cpu_plain w d q3.1, ((refl, refl), tt)))))
-event_are_words w (Bind t u (Some d) bind.EPERM) h r = let q4 = and_parts _ _ h in let q3 = and_parts _ _ q4.0 in let q2 = and_parts _ _ q3.0 in ((refl, refl), (thread_plain w t q2.0, (thread_plain w u q2.1, (cpu_plain w d q3.1, ((refl, refl), tt)))))
-event_are_words w (Bind t u (Some d) bind.EBUSY) h r = let q4 = and_parts _ _ h in let q3 = and_parts _ _ q4.0 in let q2 = and_parts _ _ q3.0 in ((refl, refl), (thread_plain w t q2.0, (thread_plain w u q2.1, (cpu_plain w d q3.1, ((refl, refl), tt)))))
-event_are_words w (Away t d) h r = let q2 = and_parts _ _ h in ((refl, refl), (thread_plain w t q2.0, ((refl, refl), (cpu_plain w d q2.1, tt))))
+event_are_words w e h r = (word_plain e, names_plain w (names e).1 h r)
 
 -- numbers joined by commas
 abbrev plain : List ℕ → Bool

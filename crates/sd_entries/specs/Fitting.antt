@@ -4,7 +4,7 @@
 use Rattle.std.specs.Prelude.{ℕ, ◌^◌, Bool, true, false, ◌&&◌, length, nat_lt, nat_le, Option, Some, None, IsTrue}
 use Rattle.std.specs.List.{list_all}
 use Rattle.sd_types.specs.declared.events.Event.{Event}
-use Rattle.sd_types.specs.declared.events.Event.TheVariants.{Tick, Spin, Idle, Dispatch, Steal, Preempt, Yield, Done, Nap, Napend, Sleep, Wake, Wakeall, Rouse, Enter, Read, Write, Block, Will, End as WalkEnd, Exit, Unblock, Grant, Passed, Age, Prio, CvWait, SemaP, SemaWait, SemaVWake, SemaVCount, Assign, Move, Joined, Bind, Away}
+use Rattle.sd_types.specs.declared.events.Event.TheVariants.{Idle, Steal, Napend, Wake, Rouse, Will, Unblock, Grant, Prio, SemaVWake, Move, Bind}
 use Rattle.sd_types.specs.declared.numbers.CpuId.{CpuId}
 use Rattle.sd_types.specs.declared.numbers.ThreadId.{ThreadId}
 use Rattle.sd_types.specs.declared.numbers.LockId.{LockId}
@@ -22,6 +22,7 @@ use Rattle.sd_types.specs.declared.events.BindAnswer.TheVariants as bind
 use Rattle.sd_types.specs.declared.events.Entry.{Entry}
 use Rattle.sd_types.specs.declared.works.Work.{Work}
 use Rattle.sd_types.specs.Limits.{most_processors}
+use Rattle.sd_machine.specs.Names.{Name, names, OfThread, OfLock, OfChan, OfCpu, OfCpuIf, OfSet, Priority, Count, At, AtIf, Whom, ByPrio, ByBind, Off}
 
 -- Each number names something that the workload has.
 
@@ -64,43 +65,24 @@ abbrev pub bind_fits : Work → BindAnswer → Bool
 bind_fits w (bind.Changed at) = put_fits_if w at
 bind_fits w _ = true
 
+abbrev pub name_fits : Work → Name → Bool
+name_fits w (OfThread t) = has_thread w t
+name_fits w (OfLock l) = has_lock w l
+name_fits w (OfChan k) = has_chan w k
+name_fits w (OfCpu d) = has_cpu w d
+name_fits w (OfCpuIf d) = cpu_fits_if w d
+name_fits w (OfSet p) = has_set w p
+name_fits w (At at) = put_fits w at
+name_fits w (AtIf at) = put_fits_if w at
+name_fits w (Whom u) = woken_fits w u
+name_fits w (ByPrio answer) = prio_fits w answer
+name_fits w (ByBind answer) = bind_fits w answer
+name_fits w (Off d) = has_cpu w d
+name_fits w _ = true
+
+-- all that an event names is there
 unfoldable pub event_fits : Work → Event → Bool
-event_fits w (Tick t) = has_thread w t
-event_fits w (Spin t l) = has_thread w t && has_lock w l
-event_fits w Idle = true
-event_fits w (Dispatch t p) = has_thread w t
-event_fits w (Steal v t p) = has_cpu w v && has_thread w t
-event_fits w (Preempt t end) = has_thread w t
-event_fits w (Yield t) = has_thread w t
-event_fits w (Done t) = has_thread w t
-event_fits w (Nap t) = has_thread w t
-event_fits w (Napend t at) = has_thread w t && put_fits w at
-event_fits w (Sleep t k) = has_thread w t && has_chan w k
-event_fits w (Wake t k u) = has_thread w t && has_chan w k && woken_fits w u
-event_fits w (Wakeall t k) = has_thread w t && has_chan w k
-event_fits w (Rouse k u) = has_chan w k && woken_fits w u
-event_fits w (Enter t l) = has_thread w t && has_lock w l
-event_fits w (Read t l) = has_thread w t && has_lock w l
-event_fits w (Write t l) = has_thread w t && has_lock w l
-event_fits w (Block t l) = has_thread w t && has_lock w l
-event_fits w (Will l o p at) = has_lock w l && has_thread w o && put_fits_if w at
-event_fits w (WalkEnd l) = has_lock w l
-event_fits w (Exit t l) = has_thread w t && has_lock w l
-event_fits w (Unblock l u at) = has_lock w l && has_thread w u && put_fits w at
-event_fits w (Grant l u at) = has_lock w l && has_thread w u && put_fits w at
-event_fits w (Passed l) = has_lock w l
-event_fits w (Age t p) = has_thread w t
-event_fits w (Prio t u answer) = has_thread w t && has_thread w u && prio_fits w answer
-event_fits w (CvWait t k l) = has_thread w t && has_chan w k && has_lock w l
-event_fits w (SemaP t k) = has_thread w t && has_chan w k
-event_fits w (SemaWait t k) = has_thread w t && has_chan w k
-event_fits w (SemaVWake t k u at) = has_thread w t && has_chan w k && has_thread w u && put_fits w at
-event_fits w (SemaVCount t k n) = has_thread w t && has_chan w k
-event_fits w (Assign t d to answer) = has_thread w t && has_cpu w d && has_set w to
-event_fits w (Move t at) = has_thread w t && put_fits w at
-event_fits w (Joined to) = has_set w to
-event_fits w (Bind t u d answer) = has_thread w t && has_thread w u && cpu_fits_if w d && bind_fits w answer
-event_fits w (Away t d) = has_thread w t && has_cpu w d
+event_fits w e = list_all (name_fits w) (names e).1
 
 -- What an event reads: numbers of running threads where it places a thread, numbers of queues where it looks for a victim.
 
@@ -157,14 +139,14 @@ abbrev pub prio_in_range : PrioAnswer → Bool
 prio_in_range (prio.Changed p at) = is_byte p
 prio_in_range (prio.Refused d) = true
 
+abbrev pub name_in_range : Name → Bool
+name_in_range (Priority p) = is_byte p
+name_in_range (Count n) = nat_lt n (2 ^ 32)
+name_in_range (ByPrio answer) = prio_in_range answer
+name_in_range _ = true
+
 abbrev pub event_in_range : Event → Bool
-event_in_range (Dispatch t p) = is_byte p
-event_in_range (Steal v t p) = is_byte p
-event_in_range (Will l o p at) = is_byte p
-event_in_range (Age t p) = is_byte p
-event_in_range (Prio t u answer) = prio_in_range answer
-event_in_range (SemaVCount t k n) = nat_lt n (2 ^ 32)
-event_in_range _ = true
+event_in_range e = list_all name_in_range (names e).1
 
 abbrev pub hints_in_range : Option Hints → Bool
 hints_in_range None = true

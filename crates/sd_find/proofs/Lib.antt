@@ -2,6 +2,7 @@ pub mod AuditedLemmas
 pub mod CauseLemmas
 pub mod CutLemmas
 pub mod FindLemmas
+pub mod HandingLemmas
 pub mod QuietLemmas
 pub mod ShownLemmas
 pub mod TextLemmas

@@ -1,5 +1,5 @@
 -- What is said of a search are whole lines.
-use Rattle.std.proofs.Common.{ℕ, Bool, true, false, List, [], ◌++◌, length, Option, None, Some, refl, sym, subst, inl, inr}
+use Rattle.std.proofs.Common.{◌≡◌, ℕ, Bool, true, false, List, [], ◌++◌, length, Option, None, Some, refl, sym, subst, ◌∙◌, inl, inr}
 use Rattle.std.specs.Prelude.{codes, decimal, if◌then◌else◌, nat_le}
 use Rattle.std.specs.List.{range_with_len}
 use Rattle.sd_types.specs.declared.numbers.ThreadId.{ThreadId}
@@ -29,6 +29,7 @@ use Rattle.sd_search_answers.specs.declared.forms.Aim.TheVariants.{Find, Count, 
 use Rattle.sd_search_answers.specs.declared.timings.Timing.{Timing}
 use Rattle.sd_search_answers.specs.declared.timings.Timing.TheVariants as timing
 use Rattle.sd_search_answers.specs.declared.verdicts.Told.{Told}
+use Rattle.sd_search_answers.specs.declared.verdicts.Verdict.TheVariants.{NoThread}
 use Rattle.sd_search_answers.specs.Answered.{IsTimedByName, IsTold, IsWaitedByName}
 use Rattle.sd_search_answers.specs.Lefts.{left_line, lefts_text, line_if_left, place_words}
 use Rattle.sd_search_answers.specs.Texts.{all_line, count_text, earliest_head, entries_line, finding_text, found_head, latest_head, left_text, longest_text, states_line, thread_line, tick_line, timing_text, wait_head}
@@ -146,6 +147,37 @@ told-ends w Count most told is =
     subst EndsLine (sym is.written) (count-ends (nat_le (length (packed is.graph)) is.graph.done) (length (packed is.graph)) (length is.finals) is.entries)
 told-ends w (Ends name) most told is = timed-ends w name.items most told is
 told-ends w (Waits name) most told is = waited-ends w name.items most told is
+
+-- ---- something is said, but where no thread has the name
+
+finding-speaks : (w : Work) (q : Question) (f : Finding) (n : ℕ) → finding_text w q f n ≡ [] → ⊥
+finding-speaks w q (Found es) n e = cc
+finding-speaks w q Never n e = cc
+finding-speaks w q More n e = cc
+
+count-speaks : (all : Bool) (n finals : ℕ) (most : Option ℕ) → count_text all n finals most ≡ [] → ⊥
+count-speaks true n finals most e = cc
+count-speaks false n finals most e = cc
+
+timing-speaks : (w : Work) (t : ThreadId) (x : Timing) (n : ℕ) → timing_text w t x n ≡ [] → ⊥
+timing-speaks w t (timing.Between earliest latest in_every) n e = cc
+timing-speaks w t timing.Never n e = cc
+timing-speaks w t timing.More n e = cc
+
+longest-speaks : (w : Work) (x : Longest) (n : ℕ) → longest_text w x n ≡ [] → ⊥
+longest-speaks w (longest.Wait ticks es) n e = cc
+longest-speaks w longest.Never n e = cc
+longest-speaks w longest.More n e = cc
+
+-- where nothing is said no thread has the name
+pub silent_verdict : (w : Work) (aim : Aim) (most : ℕ) (told : Told) → IsTold w aim most told → told.text.items ≡ [] → told.verdict ≡ NoThread
+silent_verdict w (Find q) most told is none = absurd (finding-speaks w q is.finding (length (packed is.graph)) (sym is.written ∙ none))
+silent_verdict w Count most told is none =
+    absurd (count-speaks (nat_le (length (packed is.graph)) is.graph.done) (length (packed is.graph)) (length is.finals) is.entries (sym is.written ∙ none))
+silent_verdict w (Ends name) most told (inl (t, named, is)) none = absurd (timing-speaks w t is.timing (length (packed is.graph)) (sym is.written ∙ none))
+silent_verdict w (Ends name) most told (inr unnamed) none = unnamed.verdict
+silent_verdict w (Waits name) most told (inl (t, named, is)) none = absurd (longest-speaks w is.longest (length (packed is.graph)) (sym is.written ∙ none))
+silent_verdict w (Waits name) most told (inr unnamed) none = unnamed.verdict
 
 -- ---- how far a search has come
 

@@ -1,11 +1,12 @@
 -- What stands behind an answer of `dispfind`.
 -- Source: this project's own.
-use Rattle.std.specs.Prelude.{◌≡◌, ℕ, List, [], ◌++◌, codes, Option, Some, None, Result, Ok, Err}
+use Rattle.std.specs.Prelude.{◌≡◌, ◌⊎◌, ℕ, List, [], ◌++◌, codes, Option, Some, None, Result, Ok, Err}
 use Rattle.std.specs.Io.KnownBytes.{Appends}
 use Rattle.sd_types.specs.declared.works.Work.{Work}
 use Rattle.sd_answers.specs.declared.answers.Answer.{Answer}
 use Rattle.sd_answers.specs.declared.answers.Answer.TheVariants.{Usage, TooLarge, Refused, ReadFault, WriteFault, OutOfMemory}
 use Rattle.sd_answers.specs.Answers.{line_with, status_of}
+use Rattle.sd_answers.specs.Handing.{LeavesHeldBy}
 use Rattle.sd_types.specs.Limits.{most_workload_bytes}
 use Rattle.sd_answers.specs.Inputs.{HasAtMost, HasTooMany, IsNoWorkload, IsWorkload}
 use Rattle.sd_answers.specs.StreamChanges.{StreamChange, AppendsPart, HasFault, HasNoFault, IsUntouched, TellsLine}
@@ -104,3 +105,11 @@ pub record IsSought (arguments : List (List ℕ)) (input out err : StreamChange)
   pub exit : status ≡ ended_status ended
   pub caused : CausedByFindRequest (request_of arguments) input out ended
   pub told : TellsLine err (ended_line ended)
+
+-- ---- bytes that the output holds back
+
+-- what was said was handed on; where no thread has the name nothing more is held back
+abbrev pub LeavesHeldAtEnd : Result Verdict Answer → List ℕ → List ℕ → Type 0
+LeavesHeldAtEnd (Ok NoThread) before after = (after ≡ before) ⊎ (after ≡ [])
+LeavesHeldAtEnd (Ok verdict) before after = after ≡ []
+LeavesHeldAtEnd (Err answer) before after = LeavesHeldBy answer before after

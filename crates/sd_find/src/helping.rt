@@ -1,9 +1,9 @@
 //! The forms of the arguments, in a few lines.
 
 ghost use Rattle.sd_answers.specs.StreamChanges.{change_of};
-ghost use Rattle.sd_find.specs.Seeking.{CausedByFindHelp};
+ghost use Rattle.sd_find.specs.Seeking.{CausedByFindHelp, LeavesHeldAtEnd};
 
-use sd_answers::{Answer, put_text};
+use sd_answers::{Answer, print_text};
 use sd_search_answers::Verdict;
 use sd_text::Sink;
 
@@ -25,9 +25,10 @@ Of ends two journals stand behind the lines earliest and latest
 
 /// Writes the forms.
 pub(crate) fn put_help<K: Sink>(out: &mut K) -> Result<Verdict, Answer>
-    ensures { CausedByFindHelp (change_of (K.contents out.old) (K.contents out.new) (K.fault_count out.old) (K.fault_count out.new)) result }
+    ensures caused { CausedByFindHelp (change_of (K.contents out.old) (K.contents out.new) (K.fault_count out.old) (K.fault_count out.new)) result }
+    ensures leaves { LeavesHeldAtEnd result (K.held_back out.old) (K.held_back out.new) }
 {
-    match put_text(out, HELP) {
+    match print_text(out, HELP) {
         Ok(()) => Ok(Verdict::Done),
         Err(_) => Err(Answer::WriteFault),
     }

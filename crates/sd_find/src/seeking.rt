@@ -1,27 +1,29 @@
 //! The search of the workload that an input spells.
 
-ghost use Rattle.std.specs.Prelude.{◌≡◌, [], IsErrOf, IsOk};
+ghost use Rattle.std.specs.Prelude.{◌≡◌, ◌≢◌, [], IsErrOf, IsOk};
 ghost use Rattle.sd_text.specs.Lines.{EndsLine};
-ghost use Rattle.sd_answers.specs.StreamChanges.{IsUntouched, Puts, change_of};
+ghost use Rattle.sd_answers.specs.StreamChanges.{IsUntouched, LeavesHeld, Puts, change_of};
 ghost use Rattle.sd_answers.specs.declared.writing.Unwritten.TheVariants.{Memory};
-ghost use Rattle.sd_find.specs.Seeking.{CausedBySearch};
+ghost use Rattle.sd_find.specs.Seeking.{CausedBySearch, LeavesHeldAtEnd};
 
-use sd_answers::{Answer, Unwritten, put_text, read_input};
+use sd_answers::{Answer, Unwritten, print_text, read_input};
 use sd_search_answers::{Aim, Unwatched, Verdict, Watch, tell};
 use sd_text::{Sink, Source};
 use std::alloc::Global;
 
-/// Writes what is said; where that is nothing the output is left alone.
-fn put_said<K: Sink>(out: &mut K, text: &[u8]) -> Result<(), Unwritten>
+/// Writes what is said, and hands it on; where that is nothing the output is left alone.
+fn print_said<K: Sink>(out: &mut K, text: &[u8]) -> Result<(), Unwritten>
     requires { EndsLine text.now }
     ensures puts { Puts (K.contents out.old) (K.contents out.new) (K.fault_count out.old) (K.fault_count out.new) text.now result }
     ensures no_memory { IsErrOf result Memory → ⊥ }
+    ensures leaves { text.now ≢ [] → LeavesHeld (K.held_back out.old) (K.held_back out.new) result }
+    ensures alone { text.now ≡ [] → K.held_back out.new ≡ K.held_back out.old }
     ensures silent { text.now ≡ [] → IsOk result × IsUntouched (change_of (K.contents out.old) (K.contents out.new) (K.fault_count out.old) (K.fault_count out.new)) }
 {
     if text.is_empty() {
         Ok(())
     } else {
-        put_text(out, text)
+        print_text(out, text)
     }
 }
 
@@ -34,14 +36,15 @@ pub(crate) fn seek<S: Source, K: Sink, W: Watch>(
     out: &mut K,
     watch: &mut W,
 ) -> Result<Verdict, Answer>
-    ensures { CausedBySearch aim.now most
+    ensures caused { CausedBySearch aim.now most
         (change_of (S.remaining input.old) (S.remaining input.new) (S.fault_count input.old) (S.fault_count input.new))
         (change_of (K.contents out.old) (K.contents out.new) (K.fault_count out.old) (K.fault_count out.new))
         result }
+    ensures leaves { LeavesHeldAtEnd result (K.held_back out.old) (K.held_back out.new) }
 {
     let work = read_input(alloc, input)?;
     let told = tell(alloc, &work, aim, most, watch)?;
-    put_said(out, &told.text)?;
+    print_said(out, &told.text)?;
     Ok(told.verdict)
 }
 
@@ -55,10 +58,11 @@ pub(crate) fn seek_watched<S: Source, K: Sink, W: Watch>(
     out: &mut K,
     watch: &mut W,
 ) -> Result<Verdict, Answer>
-    ensures { CausedBySearch aim.now most
+    ensures caused { CausedBySearch aim.now most
         (change_of (S.remaining input.old) (S.remaining input.new) (S.fault_count input.old) (S.fault_count input.new))
         (change_of (K.contents out.old) (K.contents out.new) (K.fault_count out.old) (K.fault_count out.new))
         result }
+    ensures leaves { LeavesHeldAtEnd result (K.held_back out.old) (K.held_back out.new) }
 {
     if quiet {
         seek(alloc, aim, most, input, out, &mut Unwatched)

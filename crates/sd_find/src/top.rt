@@ -1,6 +1,7 @@
 //! The top call: from the arguments and the streams to the exit status.
 
 ghost use Rattle.std.specs.Prelude.{◌≡◌, map, string_bytes, IsErrOf};
+ghost use Rattle.sd_answers.specs.Handing.{IsHandedOn};
 ghost use Rattle.sd_answers.specs.StreamChanges.{Puts, TellsLine, change_of};
 ghost use Rattle.sd_answers.specs.declared.writing.Unwritten.TheVariants.{Memory};
 ghost use Rattle.sd_find.specs.Asked.{asked};
@@ -68,7 +69,8 @@ fn report<E: Sink>(ended: Result<Verdict, Answer>, err: &mut E) -> u8
 /// the numbers of the state, in whatever order the processors act. 0: the states were counted, all of them, or the forms were
 /// written. 11: there are so many states that not all were searched, and no more is said. The others are 1 (the arguments are of
 /// none of the forms), 2 (the input is too large, no accepted workload, or has no thread of the name), 3 (a read failed), 4 (a
-/// write failed) and 5 (out of memory); each of these five leaves a line on `err`. Nothing is written to `out` before the search
+/// write failed) and 5 (out of memory); each of these five leaves a line on `err`. With 0, 9, 10 and 11 `out` has handed on all that it
+/// holds. Nothing is written to `out` before the search
 /// has ended. Meanwhile `progress` shows how far it has come, unless the last argument is `--quiet`, which is no part of the forms;
 /// nothing is promised of what it shows.
 pub fn find<S: Source, K: Sink, E: Sink, P: Sink>(
@@ -79,11 +81,12 @@ pub fn find<S: Source, K: Sink, E: Sink, P: Sink>(
     err: &mut E,
     progress: &mut Progress<P>,
 ) -> u8
-    ensures { SearchesAsPromised (asked (map string_bytes arguments.now))
+    ensures promises { SearchesAsPromised (asked (map string_bytes arguments.now))
         (change_of (S.remaining input.old) (S.remaining input.new) (S.fault_count input.old) (S.fault_count input.new))
         (change_of (K.contents out.old) (K.contents out.new) (K.fault_count out.old) (K.fault_count out.new))
         (change_of (E.contents err.old) (E.contents err.new) (E.fault_count err.old) (E.fault_count err.new))
         result }
+    ensures handed_on { IsHandedOn result (K.held_back out.old) (K.held_back out.new) }
 {
     match request_of(asked(arguments)) {
         Some(Request::Help) => report(put_help(out), err),
@@ -106,11 +109,12 @@ pub fn start<S: Source, K: Sink, E: Sink, P: Sink>(
     err: &mut E,
     progress: &mut Progress<P>,
 ) -> u8
-    ensures { DispfindStarts arguments
+    ensures promises { DispfindStarts arguments
         (change_of (S.remaining input.old) (S.remaining input.new) (S.fault_count input.old) (S.fault_count input.new))
         (change_of (K.contents out.old) (K.contents out.new) (K.fault_count out.old) (K.fault_count out.new))
         (change_of (E.contents err.old) (E.contents err.new) (E.fault_count err.old) (E.fault_count err.new))
         result }
+    ensures handed_on { IsHandedOn result (K.held_back out.old) (K.held_back out.new) }
 {
     match arguments {
         Ok(arguments) => find(alloc, &arguments, input, out, err, progress),

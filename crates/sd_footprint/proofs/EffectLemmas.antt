@@ -13,7 +13,7 @@ use Rattle.sd_types.specs.declared.events.Duty.{Duty}
 use Rattle.sd_types.specs.declared.events.Duty.TheVariants as duty
 use Rattle.sd_types.specs.declared.events.End.{End}
 use Rattle.sd_types.specs.declared.events.Event.{Event}
-use Rattle.sd_types.specs.declared.events.Event.TheVariants.{Tick, Spin, Idle, Dispatch, Steal, Preempt, Away, Yield, Done, Nap, Napend, Sleep, Wake, Wakeall, Rouse, Enter, Read, Write, Block, Will, End as WalkEnd, Exit, Unblock, Grant, Passed, Age, Prio, CvWait, SemaP, SemaWait, SemaVWake, SemaVCount, Assign, Move, Joined, Bind}
+use Rattle.sd_types.specs.declared.events.Event.TheVariants.{Tick, Spin, Idle, Dispatch, Steal, Preempt, Away, Yield, Done, Nap, Napend, Wake, Wakeall, Rouse, Enter, Read, Write, Block, Will, End as WalkEnd, Exit, Unblock, Grant, Passed, Age, Prio, CvWait, SemaP, SemaVWake, SemaVCount, Assign, Move, Joined, Bind}
 use Rattle.sd_types.specs.declared.events.PrioAnswer.{PrioAnswer}
 use Rattle.sd_types.specs.declared.events.PrioAnswer.TheVariants.{Changed, Refused}
 use Rattle.sd_types.specs.declared.events.Put.{Put}
@@ -371,7 +371,6 @@ effect_changes ps w s n c (Yield t) actor here all = changes_yielded ps w s n c 
 effect_changes ps w s n c (Done t) actor here all = changes_done ps s c t.0 here.0 (here.1 c here.0) (all _ (inr (inl refl)))
 effect_changes ps w s n c (Nap t) actor here all = changes_napped ps w s c t.0 (all _ (inr (inr (inl refl)))) (all _ (inr (inl refl)))
 effect_changes ps w s n c (Napend t at) actor here all = changes_woken ps w s n t at all
-effect_changes ps w s n c (Sleep t k) actor here all = changes_asleep ps w s n c t.0 k (all _ (inr (inr (inr (inl refl))))) (all _ (inr (inl refl))) (all _ (inr (inr (inl refl))))
 effect_changes ps w s n c (Wake t k u) actor here all = changes_woke ps w s n t.0 u (all _ (inl refl)) (λ v is. λ p p_is. all p (inr (subst (λ o. IsAmong p (woken_parts w o)) (sym is) p_is)))
 effect_changes ps w s n c (Wakeall t k) actor here all = changes_woke_all ps w s n c t.0 k actor (all _ (inr (inr (inl refl))))
 effect_changes ps w s n c (Rouse k u) actor here all = changes_roused ps w s n c k u (cpu_of s c.0).duty actor (λ v is. λ p p_is. all p (inr (inr (subst (λ o. IsAmong p (woken_parts w o)) (sym is) p_is))))
@@ -389,13 +388,14 @@ effect_changes ps w s n c (Age t p) actor here all = changes_aged ps w s n c t a
 effect_changes ps w s n c (Prio t u answer) actor here all = changes_prio ps w s n c t.0 u answer actor (all _ (inl refl)) (λ p is. all p (inr is))
 effect_changes ps w s n c (CvWait t k l) actor here all = changes_cv ps w s n c t.0 k l actor (all _ (inr (inl refl))) (all _ (inr (inr (inl refl)))) (all _ (inr (inr (inr (inl refl))))) (all _ (inr (inr (inr (inr (inl refl))))))
 effect_changes ps w s n c (SemaP t k) actor here all = changes_taken ps w s t.0 k (all _ (inl refl)) (all _ (inr (inl refl)))
-effect_changes ps w s n c (SemaWait t k) actor here all = changes_asleep ps w s n c t.0 k (all _ (inr (inr (inr (inl refl))))) (all _ (inr (inl refl))) (all _ (inr (inr (inl refl))))
 effect_changes ps w s n c (SemaVWake t k u at) actor here all = changes_handed ps w s n t.0 u at (all _ (inl refl)) (λ p is. all p (inr is))
 effect_changes ps w s n c (SemaVCount t k m) actor here all = changes_counted ps w s t.0 k (all _ (inl refl)) (all _ (inr (inl refl)))
 effect_changes ps w s n c (Assign t d to answer) actor here all = changes_assigned ps w s t.0 d to answer (all _ (inl refl)) (all _ (inr (inl refl))) (all _ (inr (inr (inl refl))))
 effect_changes ps w s n c (Move t at) actor here all = changes_moved ps w s n t at all
 effect_changes ps w s n c (Joined to) actor here all = changes_joined ps s c to (all _ (inl refl)) (all _ (inr (inl refl)))
 effect_changes ps w s n c (Bind t u d answer) actor here all = changes_pbound ps w s n t.0 u d answer (all _ (inl refl)) (λ p is. all p (inr is))
+-- where a thread falls asleep
+effect_changes ps w s n c _ actor here all = changes_asleep ps w s n c _ _ (all _ (inr (inr (inr (inl refl))))) (all _ (inr (inl refl))) (all _ (inr (inr (inl refl))))
 
 -- the threads of a state in which an ageing is dropped are those of the state
 ends_dropped : (s : State) (c : CpuId) (e f : Event) → EndsHere s c f → EndsHere (drop_ageing s c.0 e) c f

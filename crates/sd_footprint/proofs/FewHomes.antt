@@ -32,7 +32,7 @@ use Rattle.sd_machine.specs.declared.plans.Placement.TheVariants as placement
 use Rattle.sd_machine.specs.declared.plans.Plan.{Plan}
 use Rattle.sd_machine.specs.declared.plans.Plan.TheVariants.{Make, Place, Search}
 use Rattle.sd_machine.specs.Choosing.{victim_for}
-use Rattle.sd_machine.specs.Conditions.{sema_p_event, sema_v_plan}
+use Rattle.sd_machine.specs.Conditions.{sema_p_if, sema_p_event, sema_v_plan}
 use Rattle.sd_machine.specs.Dispatching.{dispatch_plan, leave_event, must_leave, steal_event}
 use Rattle.sd_machine.specs.Locking.{enter_event, grant_reader_plan, grant_writer_plan, is_eligible, owner_runs, read_event, unblock_plan, write_event, writer_priority}
 use Rattle.sd_machine.specs.Changes.{cpu_put}
@@ -138,7 +138,7 @@ module _ (w : Work) (s : State) (c : CpuId) (hints : Option Hints) (t : ℕ) (ru
       made w s c hints 3 (home.Cpu c) (home.Cpu c ∷ (home.Sleepers (k.0 % 64) ∷ [])) (cpu_part c ∷ (sleepers_part k ∷ [])) (sema_p_event s t k) (omega arith)
       (inr (inl refl), (inr (inr (inl refl)), tt)) (by (nat_le 1 (count_of s k.0)))
     where
-      by : (b : Bool) → Cover s c (home.Cpu c ∷ (home.Cpu c ∷ (home.Sleepers (k.0 % 64) ∷ []))) (after_parts w s c (if b then event.SemaP (thread_id t) k else event.SemaWait (thread_id t) k))
+      by : (b : Bool) → Cover s c (home.Cpu c ∷ (home.Cpu c ∷ (home.Sleepers (k.0 % 64) ∷ []))) (after_parts w s c (sema_p_if b t k))
       by true = (inl refl, (inr (inr (inr (inl refl))), (inr (inl (ap Some runs)), tt)))
       by false = (inl refl, (inl refl, (inr (inl refl), (inr (inr (inr (inl refl))), (inr (inl (ap Some runs)), tt)))))
 

@@ -90,8 +90,11 @@ module _ (w : Work) (s : State) (known : IsKnown w s) where
     ready_there d here = (here, (cpu_set d.0, tt))
 
 -- the chain of a lock and that of a channel
+pub one_of_chains : (m : ℕ) → m % 64 < 64
+one_of_chains m = omega arith
+
 pub chain_there : (l : LockId) → l.0 % 64 < 64
-chain_there l = omega arith
+chain_there l = one_of_chains l.0
 
 pub sleepers_there : (k : ChanId) → k.0 % 64 < 64
-sleepers_there k = omega arith
+sleepers_there k = one_of_chains k.0

@@ -4,7 +4,7 @@ use Rattle.std.specs.Prelude.{IfSome}
 use Rattle.sd_types.specs.declared.events.BindAnswer.{BindAnswer}
 use Rattle.sd_types.specs.declared.events.BindAnswer.TheVariants as bind
 use Rattle.sd_types.specs.declared.events.Event.{Event}
-use Rattle.sd_types.specs.declared.events.Event.TheVariants.{Tick, Spin, Idle, Dispatch, Steal, Preempt, Away, Yield, Done, Nap, Napend, Sleep, Wake, Wakeall, Rouse, Enter, Read, Write, Block, Will, End, Exit, Unblock, Grant, Passed, Age, Prio, CvWait, SemaP, SemaWait, SemaVWake, SemaVCount, Assign, Move, Joined, Bind}
+use Rattle.sd_types.specs.declared.events.Event.TheVariants.{Tick, Spin, Idle, Dispatch, Steal, Preempt, Away, Yield, Done, Nap, Napend, Wake, Wakeall, Rouse, Enter, Read, Write, Will, End, Exit, Unblock, Grant, Passed, Age, Prio, CvWait, SemaP, SemaVWake, SemaVCount, Assign, Move, Joined, Bind}
 use Rattle.sd_types.specs.declared.events.Hints.{Hints}
 use Rattle.sd_types.specs.declared.events.PrioAnswer.{PrioAnswer}
 use Rattle.sd_types.specs.declared.events.PrioAnswer.TheVariants.{Changed, Refused}
@@ -21,7 +21,7 @@ use Rattle.sd_machine.specs.Needs.{CanBeBound, IsPrioPut, IsPut, IsPutIf, IsWoke
 use Rattle.sd_machine.specs.Runs.{IsReached}
 use Rattle.sd_footprint.specs.There.{PartsAreThere}
 use Rattle.sd_footprint.proofs.LooksThere.{needed_there, next_there, reads_there}
-use Rattle.sd_footprint.proofs.ThereLemmas.{AllThere, IsKnown, chain_there, cpu_inside, known_reached, ready_there, sleepers_there, there_each, there_join, thread_set}
+use Rattle.sd_footprint.proofs.ThereLemmas.{AllThere, IsKnown, chain_there, cpu_inside, known_reached, one_of_chains, ready_there, sleepers_there, there_each, there_join, thread_set}
 use Rattle.sd_dispatcher.specs.Touched.{leaving_parts, put_parts_if, reordered_parts}
 use Rattle.sd_priocntl.specs.Touched.{prio_parts}
 use Rattle.sd_sleep.specs.Touched.{woken_parts}
@@ -85,14 +85,12 @@ module _ (w : Work) (s : State) (known : IsKnown w s) (c : CpuId) (here : c.0 < 
   touched_there (Done t) needs = (refl, (here, tt))
   touched_there (Nap t) needs = (refl, (here, (needs.0.thread, tt)))
   touched_there (Napend t at) needs = put_there t at needs.0 needs.1
-  touched_there (Sleep t k) needs = (refl, (here, (sleepers_there k, (needs.0.thread, tt))))
   touched_there (Wake t k u) needs = (needs.0.thread, woken_there u needs.2)
   touched_there (Wakeall t k) needs = (refl, (sleepers_there k, (needs.0.thread, tt)))
   touched_there (Rouse k u) needs = (refl, (sleepers_there k, woken_there u needs.1))
   touched_there (Enter t l) needs = (chain_there l, (needs.0.thread, tt))
   touched_there (Read t l) needs = (chain_there l, (needs.0.thread, tt))
   touched_there (Write t l) needs = (chain_there l, (needs.0.thread, tt))
-  touched_there (Block t l) needs = (refl, (here, (chain_there l, (needs.0.thread, tt))))
   touched_there (Will l o p at) needs = (refl, (chain_there l, reordered_there o at (thread_of s o.0).place refl needs.0 needs.3 needs.4))
   touched_there (End l) needs = (refl, tt)
   touched_there (Exit t l) needs = (refl, (chain_there l, (needs.0.thread, ready_there w s known c c here)))
@@ -103,13 +101,14 @@ module _ (w : Work) (s : State) (known : IsKnown w s) (c : CpuId) (here : c.0 < 
   touched_there (Prio t u answer) needs = (needs.0.thread, prio_there u answer needs.1.thread needs.1.put needs.1.running)
   touched_there (CvWait t k l) needs = (refl, (chain_there l, (here, (sleepers_there k, (needs.0.thread, tt)))))
   touched_there (SemaP t k) needs = (sleepers_there k, (needs.0.thread, tt))
-  touched_there (SemaWait t k) needs = (refl, (here, (sleepers_there k, (needs.0.thread, tt))))
   touched_there (SemaVWake t k u at) needs = (needs.0.thread, put_there u at needs.2 needs.3)
   touched_there (SemaVCount t k m) needs = (sleepers_there k, (needs.0.thread, tt))
   touched_there (Assign t d to answer) needs = (needs.0.thread, ready_there w s known c d needs.1)
   touched_there (Move t at) needs = put_there t at needs.0 needs.1
   touched_there (Joined to) needs = (here, (needs.0, tt))
   touched_there (Bind t u d answer) needs = (needs.0.thread, bind_there u d answer needs.1)
+  -- where a thread leaves its processor for a chain
+  touched_there _ needs = (refl, (here, (one_of_chains _, (needs.0.thread, tt))))
 
 pub parts_there : (w : Work) (n : ℕ) (s : State) (c : CpuId) (hints : Option Hints) → IsReached w n s → c.0 < w.cpus → PartsAreThere w s c hints
 parts_there w n s c hints reached inside =

@@ -51,7 +51,7 @@ use Rattle.sd_machine.specs.Locking.{owner_runs, enter_event, read_event, write_
 use Rattle.sd_machine.specs.Requeueing.{requeue, requeue_plan}
 use Rattle.sd_machine.specs.Walking.{inherited_priority, will_plan, walk_plan}
 use Rattle.sd_machine.specs.Prioritising.{answer_to, new_class, change_plan, prio_plan, age_plan}
-use Rattle.sd_machine.specs.Conditions.{sema_p_event, sema_v_plan}
+use Rattle.sd_machine.specs.Conditions.{sema_p_if, sema_p_event, sema_v_plan}
 use Rattle.sd_machine.specs.SetChanges.{closing_plan}
 use Rattle.sd_machine.specs.Plans.{first_of, duty_plan_of, duty_plan, nap_plan, ageing_plan_of, ageing_plan, op_plan, run_plan_of, run_plan, free_plan_of, cpu_plan_of, cpu_plan, or_plan, plan}
 use Rattle.sd_machine.specs.Events.{plan_event, wish, may_tick, allowed, next}
@@ -256,7 +256,7 @@ module _ (w : Work) (s : State) (c : ℕ) (h : Option Hints) where
   sema_p_caused : (t : ℕ) (k : ChanId) → Acts w s c t (Some (op.SemaP k)) → Caused w s c h (Make (sema_p_event s t k))
   sema_p_caused t k acts = by (nat_le 1 (count_of s k.0)) refl
     where
-      by : (b : Bool) → nat_le 1 (count_of s k.0) ≡ b → Caused w s c h (Make (if b then event.SemaP (thread_id t) k else event.SemaWait (thread_id t) k))
+      by : (b : Bool) → nat_le 1 (count_of s k.0) ≡ b → Caused w s c h (Make (sema_p_if b t k))
       by true e = λ m fit. (acts, grind (arith, nat_tests))
       by false e = λ m fit. (acts, grind (arith, nat_tests))
 

@@ -1,6 +1,6 @@
 -- What is true of the class state of each thread, and kept by what the classes make of it, is kept by every event.
-use Rattle.std.proofs.Common.{◌≡◌, ℕ, ◌<◌, Bool, List, length, get_or, set, Some, None, sym, ap, ◌∙◌, subst, inl, inr}
-use Rattle.std.specs.Prelude.{⊤, ◌⊎◌, Ok}
+use Rattle.std.proofs.Common.{◌≡◌, ℕ, Bool, List, length, get_or, set, Some, None, sym, ap, ◌∙◌, subst, inl, inr}
+use Rattle.std.specs.Prelude.{Ok}
 use Rattle.std.proofs.lemmas.Bool.{cases_lt, cases_eq}
 use Rattle.std.proofs.lemmas.List.{set_past}
 use Rattle.sd_frames.proofs.Frames.{IsFrame, KeepsRest, Rest, rest_of, after_kept}

@@ -1,18 +1,15 @@
--- A part of each processor: what the events leave alone that write no more of a processor than its marks.
-use Rattle.std.proofs.Common.{◌≡◌, ℕ, Bool, true, false, List, Option, Some, None, refl, ◌∙◌}
+-- A part of each processor stays through every change of a kind that leaves it alone.
+use Rattle.std.proofs.Common.{◌≡◌, ℕ, ◌+◌, ◌-◌, Bool, true, false, List, Option, Some, None, refl, ◌∙◌}
 use Rattle.sd_machine.proofs.Moves.{IsSame}
 use Rattle.sd_frames.proofs.Parts.{same_item}
 use Rattle.sd_types.specs.declared.numbers.ChanId.{ChanId}
 use Rattle.sd_types.specs.declared.numbers.CpuId.{CpuId}
 use Rattle.sd_types.specs.declared.numbers.LockId.{LockId}
-use Rattle.sd_types.specs.declared.numbers.ThreadId.{ThreadId}
 use Rattle.sd_types.specs.declared.classes.ClassState.{ClassState}
-use Rattle.sd_types.specs.declared.events.End.{End}
 use Rattle.sd_types.specs.declared.events.Event.{Event}
-use Rattle.sd_types.specs.declared.events.Event.TheVariants.{Tick, Spin, Idle, Dispatch, Steal, Preempt, Yield, Done, Nap, Napend, Sleep, Wake, Wakeall, Rouse, Enter, Read, Write, Block, Will, End as WalkEnd, Exit, Unblock, Grant, Passed, Age, Prio, CvWait, SemaP, SemaWait, SemaVWake, SemaVCount, Assign, Move, Joined, Bind, Away}
 use Rattle.sd_types.specs.declared.events.Put.{Put}
 use Rattle.sd_types.specs.declared.works.Work.{Work}
-use Rattle.std.specs.Prelude.{if◌then◌else◌, nat_lt, nat_le, ◌==◌}
+use Rattle.std.specs.Prelude.{⊤, if◌then◌else◌, nat_lt, nat_le, ◌==◌}
 use Rattle.sd_state.specs.declared.states.Place.{Place}
 use Rattle.sd_state.specs.declared.states.Place.TheVariants.{Running}
 use Rattle.sd_state.specs.declared.states.LockState.{LockState}
@@ -22,37 +19,56 @@ use Rattle.sd_state.specs.declared.states.State.{State}
 use Rattle.sd_state.specs.States.{no_cpu, thread_of, cpu_of, with_thread, with_cpu, eff_of}
 use Rattle.sd_machine.specs.Threads.{with_lock, with_count, with_open}
 use Rattle.sd_machine.specs.Bodies.{departed}
-use Rattle.sd_machine.specs.Changes.{finish_op, run_tick, set_class, send_back, hold, let_go, set_number, set_looped, clear_marks, marked, set_mark, set_kernel_mark, mark_over, remark, run_on, leave, put, put_where}
-use Rattle.sd_machine.specs.Dispatching.{charge, class_counts, dispatched, stolen, preempted, sent_away, yielded, done}
-use Rattle.sd_machine.specs.Sleeping.{woken, napped, fallen_asleep, woke}
+use Rattle.sd_machine.specs.Changes.{duty_after, unmarked, count_tick, set_duty, close, join, bind, unbind, finish_op, run_tick, set_class, send_back, hold, let_go, set_number, set_looped, marked, set_mark, set_kernel_mark, mark_over, remark, run_on, leave, put, put_where}
+use Rattle.sd_machine.specs.Sleeping.{woken, fallen_asleep}
 use Rattle.sd_machine.specs.Locking.{owned, read, granted_to_reader}
 use Rattle.sd_machine.specs.Requeueing.{reordered_at, reordered}
 use Rattle.sd_machine.specs.Prioritising.{lifted}
-use Rattle.sd_machine.specs.Conditions.{sema_taken, sema_counted, sema_handed}
-use Rattle.sd_machine.specs.SetChanges.{cleared, moved, called_back}
-use Rattle.sd_machine.specs.Events.{effect}
+use Rattle.sd_machine.specs.SetChanges.{cleared, called_back}
+use Rattle.std.specs.List.{list_all}
+use Rattle.sd_machine.specs.Events.{drop_ageing, effect, after}
+use Rattle.sd_frames.proofs.Made.{Kind, Keeps, Any, kinds, deed_made, effect_made, Over, Ran, Classed, Back, Held, Given, Numbered, Looped, Comes, Gone, Placed, Marked, Dutied, Ticked, Locked, Counted, Closed, Joins, Bound}
+use Rattle.sd_types.specs.declared.events.Duty.{Duty}
+use Rattle.sd_types.specs.declared.numbers.SetId.{SetId}
+use Rattle.sd_machine.specs.Deeds.{Deed, did, all_did, deeds}
+use Rattle.sd_machine.proofs.DeedLemmas.{all_keep}
 
--- the event writes no duty, no count of ticks and no set or binding of a processor, but for the ageing that it drops
+-- what a change of a kind writes of a processor, and the processor that it makes
+abbrev pub Written : Kind → Type 0
+Written Marked = Bool × Bool
+Written Dutied = Duty
+Written Ticked = ℕ × Duty
+Written Closed = SetId
+Written Joins = SetId
+Written Bound = ℕ
+Written _ = ⊤
+
+abbrev pub rewritten : (k : Kind) → CpuState → Written k → CpuState
+rewritten Marked x y = record x { user = y.0; kernel = y.1 }
+rewritten Gone x y = record x { user = false; kernel = false }
+rewritten Dutied x d = record x { duty = d }
+rewritten Ticked x y = record x { count = y.0; duty = y.1 }
+rewritten Closed x to = record x { closing = Some to }
+rewritten Joins x to = record x { set = to; closing = None }
+rewritten Bound x n = record x { bound = n }
+rewritten _ x y = x
+
+-- a change of the kind leaves the part as it was
+abbrev pub Leaves : {X : Type 0} → (CpuState → X) → Kind → Type 0
+Leaves part k = (x : CpuState) (y : Written k) → part (rewritten k x y) ≡ part x
+
+-- the kinds of changes that write no more of a processor than its marks
+abbrev pub markless_kind : Kind → Bool
+markless_kind Dutied = false
+markless_kind Ticked = false
+markless_kind Closed = false
+markless_kind Joins = false
+markless_kind Bound = false
+markless_kind _ = true
+
+-- and the events of such changes alone, but for the ageing that they drop
 abbrev pub keeps_cpus : Event → Bool
-keeps_cpus (Tick t) = false
-keeps_cpus (Spin t l) = false
-keeps_cpus Idle = false
-keeps_cpus (Wakeall t k) = false
-keeps_cpus (Rouse k u) = false
-keeps_cpus (Block t l) = false
-keeps_cpus (Will l o p at) = false
-keeps_cpus (WalkEnd l) = false
-keeps_cpus (Exit t l) = false
-keeps_cpus (Unblock l u at) = false
-keeps_cpus (Grant l u at) = false
-keeps_cpus (Passed l) = false
-keeps_cpus (Age t p) = false
-keeps_cpus (Prio t u answer) = false
-keeps_cpus (CvWait t k l) = false
-keeps_cpus (Assign t d to answer) = false
-keeps_cpus (Joined to) = false
-keeps_cpus (Bind t u d answer) = false
-keeps_cpus _ = true
+keeps_cpus e = list_all (λ d. list_all markless_kind (kinds d)) (deeds e)
 
 -- a part of each processor that does not look at its marks
 pub record Markless {X : Type 0} (part : CpuState → X) : Type 0 where
@@ -86,10 +102,60 @@ module _ {X : Type 0} (part : CpuState → X) where
   pub written : (s : State) (c : ℕ) (x : CpuState) → part x ≡ part (cpu_of s c) → Kept s (with_cpu s c x)
   written s c x same = record { each = same_item part s.cpus no_cpu c x same }
 
+  pub kept_keeps : (w : Work) (k : Kind) → Leaves part k → Keeps w Any Kept k
+  unfolding finish_op run_tick set_class send_back hold let_go set_number set_looped run_on leave set_duty count_tick close join bind unbind
+  kept_keeps w Marked left = λ s c u k. written s c _ (left (cpu_of s c) (u, k))
+  kept_keeps w Dutied left = λ s c d. written s c _ (left (cpu_of s c) d)
+  kept_keeps w Ticked left = λ s c. written s c _ (left (cpu_of s c) ((cpu_of s c).count + 1, duty_after w ((cpu_of s c).count + 1) (cpu_of s c).duty))
+  kept_keeps w Gone left = λ s c t its p. record { each = (written s c (unmarked (cpu_of s c)) (left (cpu_of s c) tt)).each }
+  kept_keeps w Closed left = λ s d to. record { each = (written s d.0 (record (cpu_of s d.0) { closing = Some to }) (left (cpu_of s d.0) to)).each }
+  kept_keeps w Joins left = λ s c to. record { each = (written s c.0 (record (cpu_of s c.0) { set = to; closing = None }) (left (cpu_of s c.0) to)).each }
+  kept_keeps w Bound left = (
+    λ s t its d. record { each = (written s d.0 (record (cpu_of s d.0) { bound = (cpu_of s d.0).bound + 1 }) (left (cpu_of s d.0) ((cpu_of s d.0).bound + 1))).each },
+    λ s t its b. record { each = (written s b.0 (record (cpu_of s b.0) { bound = (cpu_of s b.0).bound - 1 }) (left (cpu_of s b.0) ((cpu_of s b.0).bound - 1))).each },
+  )
+  kept_keeps w Over left = λ s t its. record { each = λ d. refl }
+  kept_keeps w Ran left = λ s t its. record { each = λ d. refl }
+  kept_keeps w Classed left = λ s t its k. record { each = λ d. refl }
+  kept_keeps w Back left = λ s t its. record { each = λ d. refl }
+  kept_keeps w Held left = λ s t its l. record { each = λ d. refl }
+  kept_keeps w Given left = λ s t its l. record { each = λ d. refl }
+  kept_keeps w Numbered left = λ s t its l o. record { each = λ d. refl }
+  kept_keeps w Looped left = λ s t its b. record { each = λ d. refl }
+  kept_keeps w Comes left = λ s t its c. record { each = λ d. refl }
+  kept_keeps w Placed left = λ s t its p. record { each = λ d. refl }
+  kept_keeps w Locked left = λ s l x. record { each = λ d. refl }
+  kept_keeps w Counted left = λ s k n. record { each = λ d. refl }
+
+  pub drop_left : Leaves part Dutied → (s : State) (c : ℕ) (e : Event) → Kept s (drop_ageing s c e)
+  unfolding drop_ageing set_duty
+  drop_left left s c e = written s c _ (left (cpu_of s c) _)
+
+  -- of all deeds and events that change it by none of their changes
+  module _ (ok : Kind → Bool) (left : (k : Kind) → ok k ≡ true → Leaves part k) (w : Work) where
+    pub deed_left : (n : ℕ) (c : CpuId) (s : State) (d : Deed) → list_all ok (kinds d) ≡ true → Kept s (did w n c s d)
+    deed_left = deed_made w same_kept then_kept ok (λ k kind. kept_keeps w k (left k kind))
+
+    pub deeds_left : (n : ℕ) (c : CpuId) (s : State) (ds : List Deed) → list_all (λ d. list_all ok (kinds d)) ds ≡ true → Kept s (all_did w n c s ds)
+    deeds_left n c s ds is = all_keep w n c same_kept then_kept (λ d. list_all ok (kinds d)) (λ r d made. deed_left n c r d made) s ds is
+
+    effect_left : (s : State) (n : ℕ) (c : CpuId) (e : Event) → list_all (λ d. list_all ok (kinds d)) (deeds e) ≡ true → Kept s (effect w s n c e)
+    effect_left s n c e is = effect_made w same_kept then_kept ok (λ k kind. kept_keeps w k (left k kind)) s n c e is
+
+    pub after_left : ok Dutied ≡ true → (s : State) (n : ℕ) (c : CpuId) (e : Event) → list_all (λ d. list_all ok (kinds d)) (deeds e) ≡ true → Kept s (after w s n c e)
+    unfolding after
+    after_left dutied s n c e is = then_kept s (drop_ageing s c.0 e) _ (drop_left (left Dutied dutied) s c.0 e) (effect_left (drop_ageing s c.0 e) n c e is)
+
   module _ (m : Markless part) where
-    pub clear_marks_kept : (s : State) (c : ℕ) → Kept s (clear_marks s c)
-    unfolding clear_marks
-    clear_marks_kept s c = written s c _ (m.marks (cpu_of s c) false false)
+    markless_left : (k : Kind) → markless_kind k ≡ true → Leaves part k
+    markless_left Marked is = λ x y. m.marks x y.0 y.1
+    markless_left Gone is = λ x y. m.marks x false false
+    markless_left Dutied is = cc
+    markless_left Ticked is = cc
+    markless_left Closed is = cc
+    markless_left Joins is = cc
+    markless_left Bound is = cc
+    markless_left _ is = λ x y. refl
 
     marked_kept : (x : CpuState) (p : ℕ) → part (marked p x) ≡ part x
     marked_kept x p = elim (nat_le 100 p) as (λ b. part (if b then record x { kernel = true } else record x { user = true }) ≡ part x) [ true ↦ m.marks x x.user true | false ↦ m.marks x true x.kernel ]
@@ -110,17 +176,9 @@ module _ {X : Type 0} (part : CpuState → X) where
     unfolding finish_op
     finish_op_kept w s t = thread_kept s t _
 
-    pub run_tick_kept : (w : Work) (s : State) (t : ℕ) → Kept s (run_tick w s t)
-    unfolding run_tick
-    run_tick_kept w s t = thread_kept s t _
-
     pub set_class_kept : (s : State) (t : ℕ) (class : ClassState) → Kept s (set_class s t class)
     unfolding set_class
     set_class_kept s t class = thread_kept s t _
-
-    pub send_back_kept : (s : State) (t : ℕ) → Kept s (send_back s t)
-    unfolding send_back
-    send_back_kept s t = thread_kept s t _
 
     pub hold_kept : (s : State) (t : ℕ) (l : LockId) → Kept s (hold s t l)
     unfolding hold
@@ -137,10 +195,6 @@ module _ {X : Type 0} (part : CpuState → X) where
     pub set_looped_kept : (s : State) (t : ℕ) (looped : Bool) → Kept s (set_looped s t looped)
     unfolding set_looped
     set_looped_kept s t looped = thread_kept s t _
-
-    pub run_on_kept : (s : State) (t : ℕ) (c : CpuId) → Kept s (run_on s t c)
-    unfolding run_on
-    run_on_kept s t c = thread_kept s t _
 
     pub either_kept : (s r q : State) (b : Bool) → Kept s r → Kept s q → Kept s (if b then r else q)
     either_kept s r q true a b = a
@@ -163,53 +217,13 @@ module _ {X : Type 0} (part : CpuState → X) where
     put_where_kept w s n t None = same_kept s
     put_where_kept w s n t (Some at) = put_kept w s n t at
 
-    pub charge_kept : (s : State) (c : ℕ) (t : ℕ) (expired : Bool) → Kept s (charge s c t expired)
-    unfolding charge
-    charge_kept s c t expired = either_kept s _ _ _ (then_kept s _ _ (send_back_kept s t) (set_mark_kept _ c _)) (same_kept s)
-
-    pub class_counts_kept : (w : Work) (s : State) (c t : ℕ) → Kept s (class_counts w s c t)
-    class_counts_kept w s c t = then_kept s _ _ (set_class_kept s t _) (charge_kept _ c t _)
-
-    pub dispatched_kept : (s : State) (c : CpuId) (t : ℕ) → Kept s (dispatched s c t)
-    unfolding dispatched
-    dispatched_kept s c t = then_kept s _ _ (clear_marks_kept s c.0) (run_on_kept _ t c)
-
-    pub stolen_kept : (s : State) (c : CpuId) (t : ℕ) → Kept s (stolen s c t)
-    unfolding stolen
-    stolen_kept s c t = run_on_kept s t c
-
-    pub preempted_kept : (w : Work) (s : State) (n : ℕ) (c : CpuId) (t : ℕ) (end : End) → Kept s (preempted w s n c t end)
-    unfolding preempted
-    preempted_kept w s n c t end = then_kept s _ _ (set_class_kept s t _) (leave_kept _ c.0 t _)
-
-    pub sent_away_kept : (s : State) (n : ℕ) (c : CpuId) (t : ℕ) (d : CpuId) → Kept s (sent_away s n c t d)
-    unfolding sent_away
-    sent_away_kept s n c t d = then_kept s _ _ (leave_kept s c.0 t _) (mark_over_kept _ d.0 _)
-
-    pub yielded_kept : (w : Work) (s : State) (n : ℕ) (c : CpuId) (t : ℕ) → Kept s (yielded w s n c t)
-    unfolding yielded
-    yielded_kept w s n c t = then_kept s _ _ (leave_kept s c.0 t _) (finish_op_kept w _ t)
-
-    pub done_kept : (s : State) (c : CpuId) (t : ℕ) → Kept s (done s c t)
-    unfolding done
-    done_kept s c t = leave_kept s c.0 t _
-
     pub woken_kept : (w : Work) (s : State) (n : ℕ) (t : ℕ) (at : Put) → Kept s (woken w s n t at)
     unfolding woken
     woken_kept w s n t at = then_kept s _ _ (set_class_kept s t _) (put_kept w _ n t at)
 
-    pub napped_kept : (w : Work) (s : State) (c : CpuId) (t : ℕ) → Kept s (napped w s c t)
-    unfolding napped
-    napped_kept w s c t = then_kept s _ _ (leave_kept s c.0 t _) (finish_op_kept w _ t)
-
     pub fallen_asleep_kept : (w : Work) (s : State) (n : ℕ) (c : CpuId) (t : ℕ) (k : ChanId) → Kept s (fallen_asleep w s n c t k)
     unfolding fallen_asleep
     fallen_asleep_kept w s n c t k = then_kept s _ _ (leave_kept s c.0 t _) (finish_op_kept w _ t)
-
-    pub woke_kept : (w : Work) (s : State) (n t : ℕ) (u : Option (ThreadId × Put)) → Kept s (woke w s n t u)
-    unfolding woke
-    woke_kept w s n t None = finish_op_kept w s t
-    woke_kept w s n t (Some u) = then_kept s _ _ (woken_kept w s n u.0.0 u.1) (finish_op_kept w _ t)
 
     pub owned_kept : (w : Work) (s : State) (t : ℕ) (l : LockId) → Kept s (owned w s t l)
     unfolding owned
@@ -234,48 +248,19 @@ module _ {X : Type 0} (part : CpuState → X) where
     pub lifted_kept : (w : Work) (s : State) (n : ℕ) (c : CpuId) (t old : ℕ) → Kept s (lifted w s n c t old)
     lifted_kept w s n c t old = either_kept s _ _ (eff_of s t == old) (same_kept s) (put_kept w s n t _)
 
-    pub sema_taken_kept : (w : Work) (s : State) (t : ℕ) (k : ChanId) → Kept s (sema_taken w s t k)
-    unfolding sema_taken
-    sema_taken_kept w s t k = then_kept s _ _ (count_kept s k.0 _) (finish_op_kept w _ t)
-
-    pub sema_counted_kept : (w : Work) (s : State) (t : ℕ) (k : ChanId) → Kept s (sema_counted w s t k)
-    unfolding sema_counted
-    sema_counted_kept w s t k = then_kept s _ _ (count_kept s k.0 _) (finish_op_kept w _ t)
-
-    pub sema_handed_kept : (w : Work) (s : State) (n : ℕ) (t : ℕ) (u : ℕ) (at : Put) → Kept s (sema_handed w s n t u at)
-    unfolding sema_handed
-    sema_handed_kept w s n t u at = then_kept s _ _ (woken_kept w s n u at) (finish_op_kept w _ t)
-
     pub cleared_kept : (s : State) (d : CpuId) (r : Option ℕ) → Kept s (cleared s d r)
     cleared_kept s d None = same_kept s
     cleared_kept s d (Some r) = set_kernel_mark_kept s d.0
-
-    pub moved_kept : (w : Work) (s : State) (n : ℕ) (t : ℕ) (at : Put) → Kept s (moved w s n t at)
-    unfolding moved
-    moved_kept w s n t at = put_kept w s n t at
 
     pub called_back_kept : (s : State) (d : CpuId) (place : Place) → Kept s (called_back s d place)
     called_back_kept s d (Running c) = either_kept s _ _ (c.0 == d.0) (same_kept s) (set_kernel_mark_kept s c.0)
     called_back_kept s d _ = same_kept s
 
+    pub deed_kept : (w : Work) (n : ℕ) (c : CpuId) (s : State) (d : Deed) → list_all markless_kind (kinds d) ≡ true → Kept s (did w n c s d)
+    deed_kept w n c s d is = deed_left markless_kind markless_left w n c s d is
+
+    pub deeds_kept : (w : Work) (n : ℕ) (c : CpuId) (s : State) (ds : List Deed) → list_all (λ d. list_all markless_kind (kinds d)) ds ≡ true → Kept s (all_did w n c s ds)
+    deeds_kept w n c s ds is = deeds_left markless_kind markless_left w n c s ds is
+
     pub effect_kept : (w : Work) (s : State) (n : ℕ) (c : CpuId) (e : Event) → keeps_cpus e ≡ true → Kept s (effect w s n c e)
-    unfolding effect
-    effect_kept w s n c (Dispatch t p) plain = dispatched_kept s c t.0
-    effect_kept w s n c (Steal v t p) plain = stolen_kept s c t.0
-    effect_kept w s n c (Preempt t end) plain = preempted_kept w s n c t.0 end
-    effect_kept w s n c (Away t d) plain = sent_away_kept s n c t.0 d
-    effect_kept w s n c (Yield t) plain = yielded_kept w s n c t.0
-    effect_kept w s n c (Done t) plain = done_kept s c t.0
-    effect_kept w s n c (Nap t) plain = napped_kept w s c t.0
-    effect_kept w s n c (Napend t at) plain = woken_kept w s n t.0 at
-    effect_kept w s n c (Sleep t k) plain = fallen_asleep_kept w s n c t.0 k
-    effect_kept w s n c (Wake t k u) plain = woke_kept w s n t.0 u
-    effect_kept w s n c (Enter t l) plain = owned_kept w s t.0 l
-    effect_kept w s n c (Read t l) plain = read_kept w s t.0 l
-    effect_kept w s n c (Write t l) plain = owned_kept w s t.0 l
-    effect_kept w s n c (SemaP t k) plain = sema_taken_kept w s t.0 k
-    effect_kept w s n c (SemaWait t k) plain = fallen_asleep_kept w s n c t.0 k
-    effect_kept w s n c (SemaVWake t k u at) plain = sema_handed_kept w s n t.0 u.0 at
-    effect_kept w s n c (SemaVCount t k m) plain = sema_counted_kept w s t.0 k
-    effect_kept w s n c (Move t at) plain = moved_kept w s n t.0 at
-    effect_kept w s n c e plain = cc
+    effect_kept w s n c e is = effect_left markless_kind markless_left w s n c e is

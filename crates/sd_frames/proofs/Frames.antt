@@ -3,8 +3,8 @@
 --
 -- For example, "the locks are as they were" is kept by every change of a thread and of a processor, so it is kept by each event that
 -- writes no lock; "each class state is in its range" is kept by what the classes make of it, so it is kept by every event.
-use Rattle.std.proofs.Common.{◌≡◌, ℕ, ◌-◌, Bool, true, false, List, Option, Some, None, refl}
-use Rattle.std.specs.Prelude.{if◌then◌else◌, Result, Ok, Err, is_none, is_some, nat_lt, nat_le, ◌==◌, ⊤}
+use Rattle.std.proofs.Common.{◌≡◌, ℕ, ◌-◌, Bool, true, false, List, Option, Some, None, refl, sym, subst}
+use Rattle.std.specs.Prelude.{if◌then◌else◌, Result, Ok, Err, is_some, nat_lt, nat_le, ◌==◌, ⊤}
 use Rattle.sd_types.specs.declared.numbers.ChanId.{ChanId}
 use Rattle.sd_types.specs.declared.numbers.CpuId.{CpuId}
 use Rattle.sd_types.specs.declared.numbers.LockId.{LockId}
@@ -13,17 +13,14 @@ use Rattle.sd_types.specs.declared.numbers.Side.TheVariants.{Writer}
 use Rattle.sd_types.specs.declared.numbers.ThreadId.{ThreadId}
 use Rattle.sd_types.specs.declared.bodies.ThreadBody.{ThreadBody}
 use Rattle.sd_types.specs.declared.classes.ClassParms.{ClassParms}
-use Rattle.sd_types.specs.declared.events.AssignAnswer.{AssignAnswer}
 use Rattle.sd_types.specs.declared.events.AssignAnswer.TheVariants as assign
-use Rattle.sd_types.specs.declared.events.BindAnswer.{BindAnswer}
 use Rattle.sd_types.specs.declared.events.BindAnswer.TheVariants as bind_answer
 use Rattle.sd_types.specs.declared.events.Denied.{Denied}
 use Rattle.sd_types.specs.declared.events.Duty.{Duty}
 use Rattle.sd_types.specs.declared.events.Duty.TheVariants as duty
 use Rattle.sd_types.specs.declared.events.End.{End}
 use Rattle.sd_types.specs.declared.events.Event.{Event}
-use Rattle.sd_types.specs.declared.events.Event.TheVariants.{Tick, Spin, Idle, Dispatch, Steal, Preempt, Yield, Done, Nap, Napend, Sleep, Wake, Wakeall, Rouse, Enter, Read, Write, Block, Will, End as WalkEnd, Exit, Unblock, Grant, Passed, Age, Prio, CvWait, SemaP, SemaWait, SemaVWake, SemaVCount, Assign, Move, Joined, Bind, Away}
-use Rattle.sd_types.specs.declared.events.PrioAnswer.{PrioAnswer}
+use Rattle.sd_types.specs.declared.events.Event.TheVariants.{Tick}
 use Rattle.sd_types.specs.declared.events.PrioAnswer.TheVariants.{Changed, Refused}
 use Rattle.sd_types.specs.declared.events.Put.{Put}
 use Rattle.sd_types.specs.declared.scripts.Op.{Op}
@@ -31,26 +28,27 @@ use Rattle.sd_types.specs.declared.scripts.Op.TheVariants as op
 use Rattle.sd_types.specs.declared.scripts.Request.{Request}
 use Rattle.sd_types.specs.declared.works.Work.{Work}
 use Rattle.sd_state.specs.declared.states.Place.{Place}
-use Rattle.sd_state.specs.declared.states.Place.TheVariants.{Running, Waiting, Ended}
+use Rattle.sd_state.specs.declared.states.Place.TheVariants.{Running, Waiting}
 use Rattle.sd_state.specs.declared.states.LockState.{LockState}
 use Rattle.sd_state.specs.declared.states.LockState.TheVariants.{Free, Owned, ReadHeld, Passing}
 use Rattle.sd_state.specs.declared.states.ThreadState.{ThreadState}
 use Rattle.sd_state.specs.declared.states.State.{State}
 use Rattle.sd_state.specs.States.{thread_of, cpu_of, with_thread, with_cpu, eff_of}
 use Rattle.sd_state.specs.Operations.{script_of, op_of, op_over, ran}
-use Rattle.sd_machine.specs.Threads.{lock_of, with_lock, with_count, best_waiter, best_sleeper, has_waiters}
+use Rattle.sd_machine.specs.Threads.{lock_of, with_lock, with_count, best_waiter, has_waiters}
 use Rattle.sd_machine.specs.Bodies.{ticked_class, woken_class, aged_class}
 use Rattle.sd_rules.specs.ClassRules.{class_requeue}
 use Rattle.sd_machine.specs.Changes.{finish_op, run_tick, set_class, send_back, hold, let_go, set_number, set_looped, set_duty, count_tick, clear_marks, set_mark, set_kernel_mark, mark_over, remark, run_on, leave, put, put_where, close, join, bind, unbind}
-use Rattle.sd_machine.specs.Dispatching.{charge, class_counts, ticked, spun, idled, dispatched, stolen, preempted, sent_away, yielded, done}
-use Rattle.sd_machine.specs.Sleeping.{woken, napped, fallen_asleep, woke, woke_all, roused_on, roused}
-use Rattle.sd_machine.specs.Locking.{owned, read, blocked, free_or_passed, release_from, released, exited, unblocked_on, unblocked, granted_to_writer, granted_to_reader, granted, passed_on, passed}
+use Rattle.sd_machine.specs.Dispatching.{charge, class_counts, preempted, sent_away}
+use Rattle.sd_machine.specs.Sleeping.{woken, fallen_asleep, roused_on, roused}
+use Rattle.sd_machine.specs.Locking.{free_or_passed, release_from, unblocked_on, granted_to_writer, granted_to_reader, granted, passed_on, passed}
 use Rattle.sd_machine.specs.Requeueing.{reordered_at, reordered}
-use Rattle.sd_machine.specs.Walking.{willed, walk_ended}
-use Rattle.sd_machine.specs.Prioritising.{answer_to, new_class, walk_from, changed_by, changed_on, reprioritised, lifted, aged}
-use Rattle.sd_machine.specs.Conditions.{cv_waited, sema_taken, sema_counted, sema_handed}
-use Rattle.sd_machine.specs.SetChanges.{cleared, assigned, moved, joined, called_back, rebound, pbound}
+use Rattle.sd_machine.specs.Walking.{willed}
+use Rattle.sd_machine.specs.Prioritising.{answer_to, new_class, walk_from, changed_by, changed_on, lifted, aged}
+use Rattle.sd_machine.specs.SetChanges.{cleared, called_back, rebound}
 use Rattle.sd_machine.specs.Events.{drop_ageing, effect, after}
+use Rattle.sd_machine.specs.Deeds.{Deed, CountsTick, RunsTick, CountsClass, ClearsMarks, LooksAgain, ComesHere, GoesTo, GoesBack, GoesAway, WakesUp, WakesIf, PutsThread, EndsOp, TakesLock, ReadsLock, HoldsLock, FreesLock, LetsGo, FreesLast, GrantsLock, PassesLock, BeginsWalk, WalksOn, EndsDuty, OrdersWake, Rouses, Lifts, Reclasses, TakesOne, CountsOne, MovesCpu, JoinsSet, BindsThread, did, all_did, deeds, first, at_most_one}
+use Rattle.sd_machine.proofs.DeedLemmas.{effect_did, none_first, one_first}
 
 -- a relation that joins, and is kept by what most events change: threads, marks and duties
 pub record IsFrame (w : Work) (R : State → State → Type 0) : Type 0 where
@@ -96,24 +94,32 @@ pub data Rest : Type 0 where
   sets : Rest
   bindings : Rest
 
+abbrev pub writes : Deed → Option Rest
+writes CountsTick = Some Rest.ticks
+writes (TakesLock t l) = Some Rest.locks
+writes (ReadsLock l) = Some Rest.locks
+writes (FreesLock l) = Some Rest.locks
+writes (FreesLast l) = Some Rest.locks
+writes (GrantsLock l u at) = Some Rest.locks
+writes (PassesLock l) = Some Rest.locks
+writes (TakesOne k) = Some Rest.counts
+writes (CountsOne k) = Some Rest.counts
+writes (MovesCpu d to answer) = Some Rest.sets
+writes (JoinsSet to) = Some Rest.sets
+writes (BindsThread u d answer) = Some Rest.bindings
+writes _ = None
+
+abbrev or_nothing : Option Rest → Rest
+or_nothing None = Rest.nothing
+or_nothing (Some x) = x
+
 abbrev pub rest_of : Event → Rest
-rest_of (Tick t) = Rest.ticks
-rest_of (Spin t l) = Rest.ticks
-rest_of Idle = Rest.ticks
-rest_of (Enter t l) = Rest.locks
-rest_of (Read t l) = Rest.locks
-rest_of (Write t l) = Rest.locks
-rest_of (Exit t l) = Rest.locks
-rest_of (Unblock l u at) = Rest.locks
-rest_of (Grant l u at) = Rest.locks
-rest_of (Passed l) = Rest.locks
-rest_of (CvWait t k l) = Rest.locks
-rest_of (SemaP t k) = Rest.counts
-rest_of (SemaVCount t k m) = Rest.counts
-rest_of (Assign t d to answer) = Rest.sets
-rest_of (Joined to) = Rest.sets
-rest_of (Bind t u d answer) = Rest.bindings
-rest_of _ = Rest.nothing
+rest_of e = or_nothing (first writes (deeds e))
+
+-- no event writes two of these
+writes_one : (e : Event) → at_most_one writes (deeds e) ≡ true
+writes_one (Tick t) = refl
+writes_one _ = refl
 
 abbrev pub KeepsRest : Work → (State → State → Type 0) → Rest → Type 0
 KeepsRest w R Rest.nothing = ⊤
@@ -175,10 +181,6 @@ module _ (w : Work) {R : State → State → Type 0} (f : IsFrame w R) where
   roused_on_kept s c None = set_duty_kept s c.0 _
   roused_on_kept s c (Some u) = f.stays s
 
-  walk_ended_kept : (s : State) (c : CpuId) → R s (walk_ended s c)
-  unfolding walk_ended
-  walk_ended_kept s c = set_duty_kept s c.0 _
-
   -- Words that change a thread.
 
   pub finish_op_kept : (s : State) (t : ℕ) → R s (finish_op w s t)
@@ -233,14 +235,6 @@ module _ (w : Work) {R : State → State → Type 0} (f : IsFrame w R) where
   class_counts_kept : (s : State) (c t : ℕ) → R s (class_counts w s c t)
   class_counts_kept s c t = f.joins s _ _ (f.ticks s t) (charge_kept _ c t _)
 
-  dispatched_kept : (s : State) (c : CpuId) (t : ℕ) → R s (dispatched s c t)
-  unfolding dispatched
-  dispatched_kept s c t = f.joins s _ _ (clear_marks_kept s c.0) (run_on_kept _ t c)
-
-  stolen_kept : (s : State) (c : CpuId) (t : ℕ) → R s (stolen s c t)
-  unfolding stolen
-  stolen_kept s c t = run_on_kept s t c
-
   preempted_kept : (s : State) (n : ℕ) (c : CpuId) (t : ℕ) (end : End) → R s (preempted w s n c t end)
   unfolding preempted
   preempted_kept s n c t end = f.joins s _ _ (f.requeues s t (thread_of s t).body.back) (leave_kept _ c.0 t _)
@@ -249,43 +243,18 @@ module _ (w : Work) {R : State → State → Type 0} (f : IsFrame w R) where
   unfolding sent_away
   sent_away_kept s n c t d = f.joins s _ _ (leave_kept s c.0 t _) (mark_over_kept _ d.0 _)
 
-  yielded_kept : (s : State) (n : ℕ) (c : CpuId) (t : ℕ) → R s (yielded w s n c t)
-  unfolding yielded
-  yielded_kept s n c t = f.joins s _ _ (leave_kept s c.0 t _) (finish_op_kept _ t)
-
-  done_kept : (s : State) (c : CpuId) (t : ℕ) → R s (done s c t)
-  unfolding done
-  done_kept s c t = leave_kept s c.0 t Ended
-
   pub woken_kept : (s : State) (n t : ℕ) (at : Put) → R s (woken w s n t at)
   unfolding woken
   woken_kept s n t at = f.joins s _ _ (f.wakes s t) (put_kept _ n t at)
-
-  napped_kept : (s : State) (c : CpuId) (t : ℕ) → R s (napped w s c t)
-  unfolding napped
-  napped_kept s c t = f.joins s _ _ (leave_kept s c.0 t _) (finish_op_kept _ t)
 
   pub fallen_asleep_kept : (s : State) (n : ℕ) (c : CpuId) (t : ℕ) (k : ChanId) → R s (fallen_asleep w s n c t k)
   unfolding fallen_asleep
   fallen_asleep_kept s n c t k = f.joins s _ _ (leave_kept s c.0 t _) (finish_op_kept _ t)
 
-  woke_kept : (s : State) (n t : ℕ) (u : Option (ThreadId × Put)) → R s (woke w s n t u)
-  unfolding woke
-  woke_kept s n t None = finish_op_kept s t
-  woke_kept s n t (Some u) = f.joins s _ _ (woken_kept s n u.0.0 u.1) (finish_op_kept _ t)
-
-  woke_all_kept : (s : State) (n : ℕ) (c : CpuId) (t : ℕ) (k : ChanId) → R s (woke_all w s n c t k)
-  unfolding woke_all
-  woke_all_kept s n c t k = f.joins s _ _ (either_kept s _ _ (is_none (best_sleeper s k.0)) (f.stays s) (set_duty_kept s c.0 _)) (finish_op_kept _ t)
-
   roused_kept : (s : State) (n : ℕ) (c : CpuId) (k : ChanId) (u : Option (ThreadId × Put)) (d : Duty) → R s (roused w s n c k u d)
   unfolding roused
   roused_kept s n c k None d = set_duty_kept s c.0 _
   roused_kept s n c k (Some u) d = f.joins s _ _ (woken_kept s n u.0.0 u.1) (roused_on_kept _ c _)
-
-  blocked_kept : (s : State) (n : ℕ) (c : CpuId) (t : ℕ) (l : LockId) → R s (blocked w s n c t l)
-  unfolding blocked
-  blocked_kept s n c t l = f.joins s _ _ (leave_kept s c.0 t _) (set_duty_kept _ c.0 _)
 
   reordered_at_kept : (s : State) (n t old : ℕ) (at : Option Put) (place : Place) → R s (reordered_at w s n t old at place)
   reordered_at_kept s n t old at (Running x) = either_kept s _ _ (nat_lt (eff_of s t) old) (remark_kept s x.0) (f.stays s)
@@ -307,11 +276,6 @@ module _ (w : Work) {R : State → State → Type 0} (f : IsFrame w R) where
   changed_on_kept s n c t u at (Some (op.Prio v r)) = changed_by_kept s n c t u at r (answer_to w s t u.0 r) refl
   changed_on_kept s n c t u at _ = f.stays s
 
-  reprioritised_kept : (s : State) (n : ℕ) (c : CpuId) (t : ℕ) (u : ThreadId) (answer : PrioAnswer) → R s (reprioritised w s n c t u answer)
-  unfolding reprioritised
-  reprioritised_kept s n c t u (Changed p at) = f.joins s _ _ (changed_on_kept s n c t u at (op_of w t (thread_of s t).body)) (finish_op_kept _ t)
-  reprioritised_kept s n c t u (Refused d) = finish_op_kept s t
-
   lifted_kept : (s : State) (n : ℕ) (c : CpuId) (t old : ℕ) → R s (lifted w s n c t old)
   lifted_kept s n c t old = either_kept s _ _ (eff_of s t == old) (f.stays s) (put_kept s n t _)
 
@@ -319,27 +283,11 @@ module _ (w : Work) {R : State → State → Type 0} (f : IsFrame w R) where
   unfolding aged
   aged_kept s n c t = f.joins s _ _ (f.ages s t) (f.joins _ _ _ (lifted_kept _ n c t _) (set_duty_kept _ c.0 _))
 
-  moved_kept : (s : State) (n t : ℕ) (at : Put) → R s (moved w s n t at)
-  unfolding moved
-  moved_kept s n t at = put_kept s n t at
-
-  sema_handed_kept : (s : State) (n t u : ℕ) (at : Put) → R s (sema_handed w s n t u at)
-  unfolding sema_handed
-  sema_handed_kept s n t u at = f.joins s _ _ (woken_kept s n u at) (finish_op_kept _ t)
-
   -- Words that change locks.
 
   module _ (m : KeepsLocks R) where
     lock_duty_kept : (s : State) (c l : ℕ) (x : LockState) (d : Duty) → R s (set_duty (with_lock s l x) c d)
     lock_duty_kept s c l x d = f.joins s _ _ (m.lock s l x) (set_duty_kept _ c d)
-
-    owned_kept : (s : State) (t : ℕ) (l : LockId) → R s (owned w s t l)
-    unfolding owned
-    owned_kept s t l = f.joins s _ _ (m.lock s l.0 _) (f.joins _ _ _ (hold_kept _ t l) (finish_op_kept _ t))
-
-    read_kept : (s : State) (t : ℕ) (l : LockId) → R s (read w s t l)
-    unfolding read
-    read_kept s t l = f.joins s _ _ (m.lock s l.0 _) (f.joins _ _ _ (hold_kept _ t l) (finish_op_kept _ t))
 
     free_or_passed_kept : (s : State) (c : CpuId) (l : LockId) (d : Duty) → R s (free_or_passed s c l d)
     free_or_passed_kept s c l d = either_kept s _ _ (has_waiters s l.0) (lock_duty_kept s c.0 l.0 (Passing c 0) d) (m.lock s l.0 Free)
@@ -350,25 +298,9 @@ module _ (w : Work) {R : State → State → Type 0} (f : IsFrame w R) where
     release_from_kept s c l (ReadHeld n) = either_kept s _ _ (nat_le n 1) (free_or_passed_kept s c l _) (m.lock s l.0 _)
     release_from_kept s c l (Passing d r) = m.lock s l.0 _
 
-    released_kept : (s : State) (c : CpuId) (t : ℕ) (l : LockId) → R s (released w s c t l)
-    unfolding released
-    released_kept s c t l = f.joins s _ _ (release_from_kept s c l (lock_of s l.0)) (let_go_kept _ t l)
-
-    exited_kept : (s : State) (c : CpuId) (t : ℕ) (l : LockId) → R s (exited w s c t l)
-    unfolding exited
-    exited_kept s c t l = f.joins s _ _ (released_kept s c t l) (f.joins _ _ _ (finish_op_kept _ t) (remark_kept _ c.0))
-
-    cv_waited_kept : (s : State) (n : ℕ) (c : CpuId) (t : ℕ) (k : ChanId) (l : LockId) → R s (cv_waited w s n c t k l)
-    unfolding cv_waited
-    cv_waited_kept s n c t k l = f.joins s _ _ (released_kept s c t l) (fallen_asleep_kept _ n c t k)
-
     unblocked_on_kept : (s : State) (c : CpuId) (l : LockId) (b : Bool) → R s (unblocked_on s c l b)
     unblocked_on_kept s c l true = f.stays s
     unblocked_on_kept s c l false = lock_duty_kept s c.0 l.0 Free _
-
-    unblocked_kept : (s : State) (n : ℕ) (c : CpuId) (l : LockId) (u : ℕ) (at : Put) → R s (unblocked w s n c l u at)
-    unfolding unblocked
-    unblocked_kept s n c l u at = f.joins s _ _ (woken_kept s n u at) (unblocked_on_kept _ c l _)
 
     granted_to_writer_kept : (s : State) (n : ℕ) (c : CpuId) (l : LockId) (u : ℕ) (at : Put) → R s (granted_to_writer w s n c l u at)
     unfolding granted_to_writer
@@ -397,90 +329,65 @@ module _ (w : Work) {R : State → State → Type 0} (f : IsFrame w R) where
 
   -- Words that change counts of channels, ticks, sets and bindings.
 
-  sema_taken_kept : KeepsCounts R → (s : State) (t : ℕ) (k : ChanId) → R s (sema_taken w s t k)
-  unfolding sema_taken
-  sema_taken_kept m s t k = f.joins s _ _ (m.count s k.0 _) (finish_op_kept _ t)
-
-  sema_counted_kept : KeepsCounts R → (s : State) (t : ℕ) (k : ChanId) → R s (sema_counted w s t k)
-  unfolding sema_counted
-  sema_counted_kept m s t k = f.joins s _ _ (m.count s k.0 _) (finish_op_kept _ t)
-
-  ticked_kept : KeepsTicks w R → (s : State) (c t : ℕ) → R s (ticked w s c t)
-  unfolding ticked
-  ticked_kept m s c t = f.joins s _ _ (m.tick s c) (f.joins _ _ _ (run_tick_kept _ t) (class_counts_kept _ c t))
-
-  spun_kept : KeepsTicks w R → (s : State) (c t : ℕ) → R s (spun w s c t)
-  unfolding spun
-  spun_kept m s c t = f.joins s _ _ (m.tick s c) (class_counts_kept _ c t)
-
-  idled_kept : KeepsTicks w R → (s : State) (c : ℕ) → R s (idled w s c)
-  unfolding idled
-  idled_kept m s c = m.tick s c
-
-  assigned_kept : KeepsSets R → (s : State) (t : ℕ) (d : CpuId) (to : SetId) (answer : AssignAnswer) → R s (assigned w s t d to answer)
-  unfolding assigned
-  assigned_kept m s t d to assign.Changed = f.joins s _ _ (m.closes s d to) (f.joins _ _ _ (cleared_kept _ d _) (finish_op_kept _ t))
-  assigned_kept m s t d to assign.EPERM = finish_op_kept s t
-  assigned_kept m s t d to assign.EINVAL = finish_op_kept s t
-  assigned_kept m s t d to assign.EBUSY = finish_op_kept s t
-
-  joined_kept : KeepsSets R → (s : State) (c : CpuId) (to : SetId) → R s (joined s c to)
-  unfolding joined
-  joined_kept m s c to = m.enters_set s c to
-
   rebound_kept : KeepsBindings R → (s : State) (u : ℕ) (d b : Option CpuId) → R s (rebound s u d b)
   rebound_kept m s u (Some d) b = f.joins s _ _ (m.binds s u d) (called_back_kept _ d _)
   rebound_kept m s u None (Some b) = m.unbinds s u b
   rebound_kept m s u None None = f.stays s
 
-  pbound_kept : KeepsBindings R → (s : State) (n t u : ℕ) (d : Option CpuId) (answer : BindAnswer) → R s (pbound w s n t u d answer)
-  unfolding pbound
-  pbound_kept m s n t u d (bind_answer.Changed at) = f.joins s _ _ (rebound_kept m s u d _) (f.joins _ _ _ (put_where_kept _ n u at) (finish_op_kept _ t))
-  pbound_kept m s n t u d bind_answer.ESRCH = finish_op_kept s t
-  pbound_kept m s n t u d bind_answer.EINVAL = finish_op_kept s t
-  pbound_kept m s n t u d bind_answer.EPERM = finish_op_kept s t
-  pbound_kept m s n t u d bind_answer.EBUSY = finish_op_kept s t
-
   -- Events.
 
+  deed_kept : (n : ℕ) (c : CpuId) (s : State) (d : Deed) → writes d ≡ None → R s (did w n c s d)
+  deed_kept n c s (RunsTick t) quiet = run_tick_kept s t
+  deed_kept n c s (CountsClass t) quiet = class_counts_kept s c.0 t
+  deed_kept n c s ClearsMarks quiet = clear_marks_kept s c.0
+  deed_kept n c s LooksAgain quiet = remark_kept s c.0
+  deed_kept n c s (ComesHere t) quiet = run_on_kept s t c
+  deed_kept n c s (GoesTo t whither) quiet = leave_kept s c.0 t _
+  deed_kept n c s (GoesBack t end) quiet = preempted_kept s n c t end
+  deed_kept n c s (GoesAway t d) quiet = sent_away_kept s n c t d
+  deed_kept n c s (WakesUp t at) quiet = woken_kept s n t at
+  deed_kept n c s (WakesIf None) quiet = f.stays s
+  deed_kept n c s (WakesIf (Some u)) quiet = woken_kept s n u.0.0 u.1
+  deed_kept n c s (PutsThread t at) quiet = put_kept s n t at
+  deed_kept n c s (EndsOp t) quiet = finish_op_kept s t
+  deed_kept n c s (HoldsLock t l) quiet = hold_kept s t l
+  deed_kept n c s (LetsGo t l) quiet = let_go_kept s t l
+  deed_kept n c s (BeginsWalk t l) quiet = set_duty_kept s c.0 _
+  deed_kept n c s (WalksOn l o at) quiet = willed_kept s n c l o at
+  deed_kept n c s EndsDuty quiet = set_duty_kept s c.0 _
+  deed_kept n c s (OrdersWake k) quiet = either_kept s _ _ _ (f.stays s) (set_duty_kept s c.0 _)
+  deed_kept n c s (Rouses k u) quiet = roused_kept s n c k u (cpu_of s c.0).duty
+  deed_kept n c s (Lifts t) quiet = aged_kept s n c t
+  deed_kept n c s (Reclasses t u (Changed p at)) quiet = changed_on_kept s n c t u at (op_of w t (thread_of s t).body)
+  deed_kept n c s (Reclasses t u (Refused denied)) quiet = f.stays s
+  deed_kept n c s d quiet = cc
+
+  written_kept : (n : ℕ) (c : CpuId) (s : State) (d : Deed) → KeepsRest w R (or_nothing (writes d)) → R s (did w n c s d)
+  written_kept n c s CountsTick m = m.tick s c.0
+  written_kept n c s (TakesLock t l) m = m.lock s l.0 _
+  written_kept n c s (ReadsLock l) m = m.lock s l.0 _
+  written_kept n c s (FreesLock l) m = release_from_kept m s c l (lock_of s l.0)
+  written_kept n c s (FreesLast l) m = unblocked_on_kept m s c l _
+  written_kept n c s (GrantsLock l u at) m = granted_kept m s n c l u at (cpu_of s c.0).duty
+  written_kept n c s (PassesLock l) m = passed_kept m s c l
+  written_kept n c s (TakesOne k) m = m.count s k.0 _
+  written_kept n c s (CountsOne k) m = m.count s k.0 _
+  written_kept n c s (MovesCpu d to assign.Changed) m = f.joins s _ _ (m.closes s d to) (cleared_kept _ d _)
+  written_kept n c s (MovesCpu d to _) m = f.stays s
+  written_kept n c s (JoinsSet to) m = m.enters_set s c to
+  written_kept n c s (BindsThread u d (bind_answer.Changed at)) m = f.joins s _ _ (rebound_kept m s u d _) (put_where_kept _ n u at)
+  written_kept n c s (BindsThread u d _) m = f.stays s
+  written_kept n c s d m = deed_kept n c s d refl
+
+  written : (n : ℕ) (c : CpuId) (s : State) (d : Deed) (x : Rest) → writes d ≡ Some x → KeepsRest w R x → R s (did w n c s d)
+  written n c s d x is m = written_kept n c s d (subst (λ o. KeepsRest w R (or_nothing o)) (sym is) m)
+
   pub effect_kept : (s : State) (n : ℕ) (c : CpuId) (e : Event) → KeepsRest w R (rest_of e) → R s (effect w s n c e)
-  unfolding effect
-  effect_kept s n c (Tick t) m = ticked_kept m s c.0 t.0
-  effect_kept s n c (Spin t l) m = spun_kept m s c.0 t.0
-  effect_kept s n c Idle m = idled_kept m s c.0
-  effect_kept s n c (Dispatch t p) m = dispatched_kept s c t.0
-  effect_kept s n c (Steal v t p) m = stolen_kept s c t.0
-  effect_kept s n c (Preempt t end) m = preempted_kept s n c t.0 end
-  effect_kept s n c (Away t d) m = sent_away_kept s n c t.0 d
-  effect_kept s n c (Yield t) m = yielded_kept s n c t.0
-  effect_kept s n c (Done t) m = done_kept s c t.0
-  effect_kept s n c (Nap t) m = napped_kept s c t.0
-  effect_kept s n c (Napend t at) m = woken_kept s n t.0 at
-  effect_kept s n c (Sleep t k) m = fallen_asleep_kept s n c t.0 k
-  effect_kept s n c (Wake t k u) m = woke_kept s n t.0 u
-  effect_kept s n c (Wakeall t k) m = woke_all_kept s n c t.0 k
-  effect_kept s n c (Rouse k u) m = roused_kept s n c k u (cpu_of s c.0).duty
-  effect_kept s n c (Enter t l) m = owned_kept m s t.0 l
-  effect_kept s n c (Read t l) m = read_kept m s t.0 l
-  effect_kept s n c (Write t l) m = owned_kept m s t.0 l
-  effect_kept s n c (Block t l) m = blocked_kept s n c t.0 l
-  effect_kept s n c (Will l o p at) m = willed_kept s n c l o at
-  effect_kept s n c (WalkEnd l) m = walk_ended_kept s c
-  effect_kept s n c (Exit t l) m = exited_kept m s c t.0 l
-  effect_kept s n c (Unblock l u at) m = unblocked_kept m s n c l u.0 at
-  effect_kept s n c (Grant l u at) m = granted_kept m s n c l u.0 at (cpu_of s c.0).duty
-  effect_kept s n c (Passed l) m = passed_kept m s c l
-  effect_kept s n c (Age t p) m = aged_kept s n c t.0
-  effect_kept s n c (Prio t u answer) m = reprioritised_kept s n c t.0 u answer
-  effect_kept s n c (CvWait t k l) m = cv_waited_kept m s n c t.0 k l
-  effect_kept s n c (SemaP t k) m = sema_taken_kept m s t.0 k
-  effect_kept s n c (SemaWait t k) m = fallen_asleep_kept s n c t.0 k
-  effect_kept s n c (SemaVWake t k u at) m = sema_handed_kept s n t.0 u.0 at
-  effect_kept s n c (SemaVCount t k j) m = sema_counted_kept m s t.0 k
-  effect_kept s n c (Assign t d to answer) m = assigned_kept m s t.0 d to answer
-  effect_kept s n c (Move t at) m = moved_kept s n t.0 at
-  effect_kept s n c (Joined to) m = joined_kept m s c to
-  effect_kept s n c (Bind t u d answer) m = pbound_kept m s n t.0 u.0 d answer
+  effect_kept s n c e m = subst (λ r. R s r) (sym (effect_did w s n c e)) (by (first writes (deeds e)) refl m)
+    where
+      by : (o : Option Rest) → first writes (deeds e) ≡ o → KeepsRest w R (or_nothing o) → R s (all_did w n c s (deeds e))
+      by None is m = none_first w n c writes {T = λ r q x. R r q} f.stays f.joins (λ r q v x. f.joins r q v) (λ r q v x. f.joins r q v) {Fit = λ r x. KeepsRest w R x} (λ r d x fit. fit) (deed_kept n c) (written n c) s (deeds e) (writes_one e) is
+      by (Some x) is m = one_first w n c writes {T = λ r q x. R r q} f.stays f.joins (λ r q v x. f.joins r q v) (λ r q v x. f.joins r q v) {Fit = λ r x. KeepsRest w R x} (λ r d x fit. fit) (deed_kept n c) (written n c) s (deeds e) x (writes_one e) is m
 
   pub drop_kept : (s : State) (c : ℕ) (e : Event) → R s (drop_ageing s c e)
   unfolding drop_ageing

@@ -1,3 +1,4 @@
+pub mod Altering
 pub mod CauseLemmas
 pub mod ClassTable
 pub mod CpuWords
@@ -5,14 +6,15 @@ pub mod FieldWords
 pub mod Found
 pub mod Frames
 pub mod HoldTable
+pub mod Leavers
 pub mod LockTable
+pub mod Made
 pub mod OpTable
 pub mod Parts
 pub mod PassLemmas
 pub mod PlaceTable
-pub mod PlainWords
 pub mod ReleaseLemmas
 pub mod Searches
-pub mod SetDuties
 pub mod SideFields
+pub mod ThreadParts
 pub mod Words

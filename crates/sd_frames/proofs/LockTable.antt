@@ -1,5 +1,5 @@
 -- The locks and the duties after each event.
-use Rattle.std.proofs.Common.{◌≡◌, ℕ, ◌+◌, ◌%◌, ◌<◌, Bool, true, false, ◌||◌, List, length, set, Option, Some, None, refl, ◌∙◌, sym, ap, arith}
+use Rattle.std.proofs.Common.{◌≡◌, ℕ, ◌+◌, ◌%◌, ◌<◌, Bool, true, false, ◌||◌, List, length, set, Option, Some, None, refl, ◌∙◌, sym, subst, ap, arith, [], ◌∷◌}
 use Rattle.std.specs.Prelude.{int_lt}
 use Rattle.std.specs.Ordering.{int_eq}
 use Rattle.sd_machine.specs.Holders as H
@@ -12,28 +12,24 @@ use Rattle.sd_frames.proofs.FieldWords as W
 use Rattle.sd_frames.proofs.Frames as F
 use Rattle.sd_frames.proofs.Frames.{IsFrame, KeepsRest, Rest, rest_of}
 use Rattle.sd_frames.proofs.CpuWords as C
+use Rattle.sd_frames.proofs.Made.{Kind, Dutied, Ticked}
 use Rattle.sd_types.specs.declared.numbers.ChanId.{ChanId}
 use Rattle.sd_types.specs.declared.numbers.CpuId.{CpuId}
 use Rattle.sd_types.specs.declared.numbers.LockId.{LockId}
 use Rattle.sd_types.specs.declared.numbers.SetId.{SetId}
 use Rattle.sd_types.specs.declared.numbers.ThreadId.{ThreadId}
 use Rattle.sd_types.specs.declared.classes.ClassParms.{ClassParms}
-use Rattle.sd_types.specs.declared.events.AssignAnswer.{AssignAnswer}
-use Rattle.sd_types.specs.declared.events.AssignAnswer.TheVariants as assign
-use Rattle.sd_types.specs.declared.events.BindAnswer.{BindAnswer}
-use Rattle.sd_types.specs.declared.events.BindAnswer.TheVariants as bind_answer
 use Rattle.sd_types.specs.declared.events.Denied.{Denied}
 use Rattle.sd_types.specs.declared.events.Duty.{Duty}
 use Rattle.sd_types.specs.declared.events.Duty.TheVariants as duty
 use Rattle.sd_types.specs.declared.events.Event.{Event}
-use Rattle.sd_types.specs.declared.events.Event.TheVariants.{Tick, Spin, Idle, Dispatch, Steal, Preempt, Yield, Done, Nap, Napend, Sleep, Wake, Wakeall, Rouse, Enter, Read, Write, Block, Will, End as WalkEnd, Exit, Unblock, Grant, Passed, Age, Prio, CvWait, SemaP, SemaWait, SemaVWake, SemaVCount, Assign, Move, Joined, Bind, Away}
-use Rattle.sd_types.specs.declared.events.PrioAnswer.{PrioAnswer}
+use Rattle.sd_types.specs.declared.events.Event.TheVariants.{Enter, Read, Write, Exit, Unblock, Grant, Passed, CvWait}
 use Rattle.sd_types.specs.declared.events.PrioAnswer.TheVariants.{Changed, Refused}
 use Rattle.sd_types.specs.declared.events.Put.{Put}
 use Rattle.sd_types.specs.declared.scripts.Op.{Op}
 use Rattle.sd_types.specs.declared.scripts.Op.TheVariants as op
 use Rattle.sd_types.specs.declared.works.Work.{Work}
-use Rattle.std.specs.Prelude.{if◌then◌else◌, Result, Ok, Err, is_none, ◌==◌, ◌&&◌}
+use Rattle.std.specs.Prelude.{if◌then◌else◌, Result, Ok, Err, ◌==◌, ◌&&◌}
 use Rattle.sd_state.specs.declared.states.Place.{Place}
 use Rattle.sd_state.specs.declared.states.Place.TheVariants.{Running, Queued, RealTime, Waiting, Asleep, Napping, Ended}
 use Rattle.sd_state.specs.declared.states.LockState.{LockState}
@@ -42,18 +38,19 @@ use Rattle.sd_state.specs.declared.states.CpuState.{CpuState}
 use Rattle.sd_state.specs.declared.states.State.{State}
 use Rattle.sd_state.specs.States.{no_cpu, thread_of, cpu_of, eff_of}
 use Rattle.sd_state.specs.Operations.{op_of}
-use Rattle.sd_machine.specs.Threads.{thread_id, lock_of, with_lock, runner, best_sleeper, best_sleeper_below, greatest_waiting}
+use Rattle.sd_machine.specs.Threads.{thread_id, lock_of, with_lock, best_sleeper_below, greatest_waiting}
 use Rattle.sd_machine.specs.Bodies.{aged_class}
-use Rattle.sd_machine.specs.Changes.{back_key, with_body, finish_op, run_tick, set_class, hold, let_go, set_number, set_looped, set_duty, duty_after, count_tick, leave, put_where, close, join, bind, unbind}
-use Rattle.sd_machine.specs.Dispatching.{class_counts, ticked, spun, idled}
-use Rattle.sd_machine.specs.Sleeping.{woken, woke_all, roused_on, rouse_key, roused}
+use Rattle.sd_machine.specs.Changes.{back_key, finish_op, set_class, hold, set_number, set_looped, set_duty, duty_after, count_tick, leave, close, join}
+use Rattle.sd_machine.specs.Sleeping.{woken, roused_on, rouse_key, roused, fallen_asleep}
 use Rattle.sd_machine.specs.Locking.{owned, one_more, read, side_of, blocked, release_from, released, exited, others_waiting, one_reader_more, granted_to_writer, granted_to_reader}
 use Rattle.sd_machine.specs.Requeueing.{reordered}
-use Rattle.sd_machine.specs.Walking.{is_back, next_walk, walked, willed, walk_ended}
-use Rattle.sd_machine.specs.Prioritising.{answer_to, new_class, walk_from, changed_by, changed_on, reprioritised, lifted, aged}
+use Rattle.sd_machine.specs.Walking.{is_back, next_walk, walked, willed}
+use Rattle.sd_machine.specs.Prioritising.{answer_to, new_class, walk_from, changed_by, changed_on, lifted, aged}
 use Rattle.sd_machine.specs.Conditions.{cv_waited}
-use Rattle.sd_machine.specs.SetChanges.{cleared, assigned, joined, rebound, pbound}
+use Rattle.std.specs.List.{list_all}
 use Rattle.sd_machine.specs.Events.{keeps_ageing, dropped_duty, drop_ageing, effect, after}
+use Rattle.sd_machine.specs.Deeds.{EndsOp, GoesTo, LetsGo, LooksAgain, ToSleep, Deed, CountsTick, TakesLock, ReadsLock, FreesLock, FreesLast, GrantsLock, PassesLock, BeginsWalk, WalksOn, EndsDuty, OrdersWake, Rouses, Lifts, Reclasses, did, deeds}
+use Rattle.sd_machine.proofs.DeedLemmas.{all_keep, effect_did}
 
 -- Fields.
 
@@ -121,17 +118,27 @@ duty_part x = x.duty
 pub duty_marks : C.Markless duty_part
 duty_marks = record { marks = λ x u k. refl }
 
+-- the kinds of changes that write no duty
+abbrev pub leaves_duty : Kind → Bool
+leaves_duty Dutied = false
+leaves_duty Ticked = false
+leaves_duty _ = true
+
+pub duty_left : (k : Kind) → leaves_duty k ≡ true → C.Leaves duty_part k
+duty_left Dutied is = cc
+duty_left Ticked is = cc
+duty_left _ is = λ x y. refl
+
 abbrev pub Duties : State → State → Type 0
 Duties s r = C.Kept duty_part s r
 
 pub exited_duties : (w : Work) (s : State) (c : CpuId) (t : ℕ) (l : LockId) → Duties (release_from w s c l (lock_of s l.0)) (exited w s c t l)
 unfolding exited released
-exited_duties w s c t l = C.then_kept duty_part _ (let_go (release_from w s c l (lock_of s l.0)) t l) _ (C.let_go_kept duty_part duty_marks _ t l)
-    (C.then_kept duty_part _ (finish_op w (let_go (release_from w s c l (lock_of s l.0)) t l) t) _ (C.finish_op_kept duty_part duty_marks w _ t) (C.remark_kept duty_part duty_marks _ c.0))
+exited_duties w s c t l = C.deeds_kept duty_part duty_marks w 0 c (release_from w s c l (lock_of s l.0)) (LetsGo t l ∷ EndsOp t ∷ LooksAgain ∷ []) refl
 
 pub cv_waited_duties : (w : Work) (s : State) (n : ℕ) (c : CpuId) (t : ℕ) (k : ChanId) (l : LockId) → Duties (release_from w s c l (lock_of s l.0)) (cv_waited w s n c t k l)
-unfolding cv_waited released
-cv_waited_duties w s n c t k l = C.then_kept duty_part _ (let_go (release_from w s c l (lock_of s l.0)) t l) _ (C.let_go_kept duty_part duty_marks _ t l) (C.fallen_asleep_kept duty_part duty_marks w _ n c t k)
+unfolding cv_waited released fallen_asleep
+cv_waited_duties w s n c t k l = C.deeds_kept duty_part duty_marks w n c (release_from w s c l (lock_of s l.0)) (LetsGo t l ∷ GoesTo t (ToSleep k) ∷ EndsOp t ∷ []) refl
 
 pub woken_duties : (w : Work) (s : State) (n u : ℕ) (at : Put) → Duties s (woken w s n u at)
 woken_duties w s n u at = C.woken_kept duty_part duty_marks w s n u at
@@ -243,30 +250,6 @@ count_tick_served : (w : Work) (s : State) (c : ℕ) → pass_duty (cpu_of s c).
 unfolding count_tick
 count_tick_served w s c free = C.written served_part s c _ (after_tick_served w ((cpu_of s c).count + 1) (cpu_of s c).duty free ∙ sym free)
 
-class_counts_served : (w : Work) (s : State) (c t : ℕ) → Served s (class_counts w s c t)
-class_counts_served w s c t = C.class_counts_kept served_part served_marks w s c t
-
-ticked_served : (w : Work) (s : State) (c t : ℕ) → pass_duty (cpu_of s c).duty ≡ duty.Nothing → Served s (ticked w s c t)
-unfolding ticked
-ticked_served w s c t free = C.then_kept served_part s (count_tick w s c) _ (count_tick_served w s c free) (C.then_kept served_part _ (run_tick w (count_tick w s c) t) _ (C.run_tick_kept served_part served_marks w _ t) (class_counts_served w _ c t))
-
-spun_served : (w : Work) (s : State) (c t : ℕ) → pass_duty (cpu_of s c).duty ≡ duty.Nothing → Served s (spun w s c t)
-unfolding spun
-spun_served w s c t free = C.then_kept served_part s (count_tick w s c) _ (count_tick_served w s c free) (class_counts_served w _ c t)
-
-idled_served : (w : Work) (s : State) (c : ℕ) → pass_duty (cpu_of s c).duty ≡ duty.Nothing → Served s (idled w s c)
-unfolding idled
-idled_served w s c free = count_tick_served w s c free
-
-woke_all_served : (w : Work) (s : State) (n : ℕ) (c : CpuId) (t : ℕ) (k : ChanId) → pass_duty (cpu_of s c.0).duty ≡ duty.Nothing → Served s (woke_all w s n c t k)
-unfolding woke_all
-woke_all_served w s n c t k free = C.then_kept served_part s (if is_none (best_sleeper s k.0) then s else set_duty s c.0 (duty.Rouse k (back_key n))) _
-    (by (is_none (best_sleeper s k.0))) (C.finish_op_kept served_part served_marks w _ t)
-  where
-    by : (b : Bool) → Served s (if b then s else set_duty s c.0 (duty.Rouse k (back_key n)))
-    by true = C.same_kept served_part s
-    by false = duty_served s c.0 _ (sym free)
-
 roused_served : (w : Work) (s : State) (n : ℕ) (c : CpuId) (k : ChanId) (u : Option (ThreadId × Put)) (d : Duty) → pass_duty (cpu_of s c.0).duty ≡ duty.Nothing → Served s (roused w s n c k u d)
 unfolding roused
 roused_served w s n c k None d free = duty_served s c.0 duty.Nothing (sym free)
@@ -302,10 +285,6 @@ willed_served w s n c l o at free =
     (C.then_kept served_part s _ _ a (duty_served _ c.0 _ (next_walk_served (cpu_of s c.0).duty o (thread_of s o.0).body.looped (thread_of s o.0).place ∙ sym (a.each c.0 ∙ free))))
     (C.reordered_kept served_part served_marks w _ n o.0 _ at)
 
-walk_ended_served : (s : State) (c : CpuId) → pass_duty (cpu_of s c.0).duty ≡ duty.Nothing → Served s (walk_ended s c)
-unfolding walk_ended
-walk_ended_served s c free = duty_served s c.0 duty.Nothing (sym free)
-
 aged_served : (w : Work) (s : State) (n : ℕ) (c : CpuId) (t : ℕ) → pass_duty (cpu_of s c.0).duty ≡ duty.Nothing → Served s (aged w s n c t)
 unfolding aged
 aged_served w s n c t free =
@@ -328,94 +307,45 @@ changed_on_served : (w : Work) (s : State) (n : ℕ) (c : CpuId) (t : ℕ) (u : 
 changed_on_served w s n c t u at (Some (op.Prio v r)) free = changed_by_served w s n c u at (answer_to w s t u.0 r) free
 changed_on_served w s n c t u at _ free = C.same_kept served_part s
 
-reprioritised_served : (w : Work) (s : State) (n : ℕ) (c : CpuId) (t : ℕ) (u : ThreadId) (answer : PrioAnswer) → pass_duty (cpu_of s c.0).duty ≡ duty.Nothing → Served s (reprioritised w s n c t u answer)
-unfolding reprioritised
-reprioritised_served w s n c t u (Changed p at) free = C.then_kept served_part s (changed_on w s n c t u at (op_of w t (thread_of s t).body)) _ (changed_on_served w s n c t u at _ free) (C.finish_op_kept served_part served_marks w _ t)
-reprioritised_served w s n c t u (Refused d) free = C.finish_op_kept served_part served_marks w s t
+served_left : (k : Kind) → leaves_duty k ≡ true → C.Leaves served_part k
+served_left Dutied is = cc
+served_left Ticked is = cc
+served_left _ is = λ x y. refl
 
-close_served : (s : State) (d : CpuId) (to : SetId) → Served s (close s d to)
-unfolding close
-close_served s d to = C.then_kept served_part s _ _ (C.open_kept served_part s _ _) (C.written served_part _ d.0 _ refl)
+-- the deed passes no lock on, frees none and takes none, and nobody comes to wait or ceases to
+abbrev pub is_lockless_deed : Deed → Bool
+is_lockless_deed (TakesLock t l) = false
+is_lockless_deed (ReadsLock l) = false
+is_lockless_deed (FreesLock l) = false
+is_lockless_deed (FreesLast l) = false
+is_lockless_deed (GrantsLock l u at) = false
+is_lockless_deed (PassesLock l) = false
+is_lockless_deed (BeginsWalk t l) = false
+is_lockless_deed _ = true
 
-join_served : (s : State) (c : CpuId) (to : SetId) → Served s (join s c to)
-unfolding join
-join_served s c to = C.then_kept served_part s _ _ (C.open_kept served_part s _ _) (C.written served_part _ c.0 _ refl)
-
-joined_served : (s : State) (c : CpuId) (to : SetId) → Served s (joined s c to)
-unfolding joined
-joined_served s c to = join_served s c to
-
-assigned_served : (w : Work) (s : State) (t : ℕ) (d : CpuId) (to : SetId) (answer : AssignAnswer) → Served s (assigned w s t d to answer)
-unfolding assigned
-assigned_served w s t d to assign.Changed = C.then_kept served_part s _ _ (close_served s d to) (C.then_kept served_part _ (cleared (close s d to) d (runner s d.0)) _ (C.cleared_kept served_part served_marks _ d _) (C.finish_op_kept served_part served_marks w _ t))
-assigned_served w s t d to assign.EPERM = C.finish_op_kept served_part served_marks w s t
-assigned_served w s t d to assign.EINVAL = C.finish_op_kept served_part served_marks w s t
-assigned_served w s t d to assign.EBUSY = C.finish_op_kept served_part served_marks w s t
-
-bind_served : (s : State) (t : ℕ) (d : CpuId) → Served s (bind s t d)
-unfolding bind
-bind_served s t d = C.then_kept served_part s (with_body s t (record (thread_of s t).body { bound = Some d })) _ (C.thread_kept served_part s t _) (C.written served_part _ d.0 _ refl)
-
-unbind_served : (s : State) (t : ℕ) (b : CpuId) → Served s (unbind s t b)
-unfolding unbind
-unbind_served s t b = C.then_kept served_part s (with_body s t (record (thread_of s t).body { bound = None })) _ (C.thread_kept served_part s t _) (C.written served_part _ b.0 _ refl)
-
-rebound_served : (s : State) (u : ℕ) (d b : Option CpuId) → Served s (rebound s u d b)
-rebound_served s u (Some d) b = C.then_kept served_part s _ _ (bind_served s u d) (C.called_back_kept served_part served_marks _ d _)
-rebound_served s u None (Some b) = unbind_served s u b
-rebound_served s u None None = C.same_kept served_part s
-
-pbound_served : (w : Work) (s : State) (n t u : ℕ) (d : Option CpuId) (answer : BindAnswer) → Served s (pbound w s n t u d answer)
-unfolding pbound
-pbound_served w s n t u d (bind_answer.Changed at) = C.then_kept served_part s (rebound s u d (thread_of s u).body.bound) _ (rebound_served s u d _) (C.then_kept served_part _ (put_where w (rebound s u d (thread_of s u).body.bound) n u at) _ (C.put_where_kept served_part served_marks w _ n u at) (C.finish_op_kept served_part served_marks w _ t))
-pbound_served w s n t u d bind_answer.ESRCH = C.finish_op_kept served_part served_marks w s t
-pbound_served w s n t u d bind_answer.EINVAL = C.finish_op_kept served_part served_marks w s t
-pbound_served w s n t u d bind_answer.EPERM = C.finish_op_kept served_part served_marks w s t
-pbound_served w s n t u d bind_answer.EBUSY = C.finish_op_kept served_part served_marks w s t
-
--- the event passes no lock on, frees none and takes none, and nobody comes to wait or ceases to
 abbrev pub is_lockless : Event → Bool
-is_lockless (Enter t l) = false
-is_lockless (Read t l) = false
-is_lockless (Write t l) = false
-is_lockless (Block t l) = false
-is_lockless (Exit t l) = false
-is_lockless (Unblock l u at) = false
-is_lockless (Grant l u at) = false
-is_lockless (Passed l) = false
-is_lockless (CvWait t k l) = false
-is_lockless _ = true
+is_lockless e = list_all is_lockless_deed (deeds e)
+
+deed_served : (w : Work) (n : ℕ) (c : CpuId) (s : State) (d : Deed) → is_lockless_deed d ≡ true → pass_duty (cpu_of s c.0).duty ≡ duty.Nothing → Served s (did w n c s d)
+deed_served w n c s CountsTick quiet free = count_tick_served w s c.0 free
+deed_served w n c s (WalksOn l o at) quiet free = willed_served w s n c l o at free
+deed_served w n c s EndsDuty quiet free = duty_served s c.0 duty.Nothing (sym free)
+deed_served w n c s (OrdersWake k) quiet free = C.either_kept served_part served_marks s _ _ _ (C.same_kept served_part s) (duty_served s c.0 _ (sym free))
+deed_served w n c s (Rouses k u) quiet free = roused_served w s n c k u (cpu_of s c.0).duty free
+deed_served w n c s (Lifts t) quiet free = aged_served w s n c t free
+deed_served w n c s (Reclasses t u (Changed p at)) quiet free = changed_on_served w s n c t u at (op_of w t (thread_of s t).body) free
+deed_served w n c s (Reclasses t u (Refused denied)) quiet free = C.same_kept served_part s
+deed_served w n c s (FreesLock l) quiet free = cc
+deed_served w n c s (FreesLast l) quiet free = cc
+deed_served w n c s (GrantsLock l u at) quiet free = cc
+deed_served w n c s (PassesLock l) quiet free = cc
+deed_served w n c s (BeginsWalk t l) quiet free = cc
+deed_served w n c s d quiet free = C.deed_left served_part leaves_duty served_left w n c s d refl
 
 effect_served : (w : Work) (s : State) (n : ℕ) (c : CpuId) (e : Event) → is_lockless e ≡ true → pass_duty (cpu_of s c.0).duty ≡ duty.Nothing → Served s (effect w s n c e)
-unfolding effect
-effect_served w s n c (Tick t) quiet free = ticked_served w s c.0 t.0 free
-effect_served w s n c (Spin t l) quiet free = spun_served w s c.0 t.0 free
-effect_served w s n c Idle quiet free = idled_served w s c.0 free
-effect_served w s n c (Dispatch t p) quiet free = C.dispatched_kept served_part served_marks s c t.0
-effect_served w s n c (Steal v t p) quiet free = C.stolen_kept served_part served_marks s c t.0
-effect_served w s n c (Preempt t end) quiet free = C.preempted_kept served_part served_marks w s n c t.0 end
-effect_served w s n c (Away t d) quiet free = C.sent_away_kept served_part served_marks s n c t.0 d
-effect_served w s n c (Yield t) quiet free = C.yielded_kept served_part served_marks w s n c t.0
-effect_served w s n c (Done t) quiet free = C.done_kept served_part served_marks s c t.0
-effect_served w s n c (Nap t) quiet free = C.napped_kept served_part served_marks w s c t.0
-effect_served w s n c (Napend t at) quiet free = C.woken_kept served_part served_marks w s n t.0 at
-effect_served w s n c (Sleep t k) quiet free = C.fallen_asleep_kept served_part served_marks w s n c t.0 k
-effect_served w s n c (Wake t k u) quiet free = C.woke_kept served_part served_marks w s n t.0 u
-effect_served w s n c (Wakeall t k) quiet free = woke_all_served w s n c t.0 k free
-effect_served w s n c (Rouse k u) quiet free = roused_served w s n c k u (cpu_of s c.0).duty free
-effect_served w s n c (Will l o p at) quiet free = willed_served w s n c l o at free
-effect_served w s n c (WalkEnd l) quiet free = walk_ended_served s c free
-effect_served w s n c (Age t p) quiet free = aged_served w s n c t.0 free
-effect_served w s n c (Prio t u answer) quiet free = reprioritised_served w s n c t.0 u answer free
-effect_served w s n c (SemaP t k) quiet free = C.sema_taken_kept served_part served_marks w s t.0 k
-effect_served w s n c (SemaWait t k) quiet free = C.fallen_asleep_kept served_part served_marks w s n c t.0 k
-effect_served w s n c (SemaVWake t k u at) quiet free = C.sema_handed_kept served_part served_marks w s n t.0 u.0 at
-effect_served w s n c (SemaVCount t k m) quiet free = C.sema_counted_kept served_part served_marks w s t.0 k
-effect_served w s n c (Assign t d to answer) quiet free = assigned_served w s t.0 d to answer
-effect_served w s n c (Move t at) quiet free = C.moved_kept served_part served_marks w s n t.0 at
-effect_served w s n c (Joined to) quiet free = joined_served s c to
-effect_served w s n c (Bind t u d answer) quiet free = pbound_served w s n t.0 u.0 d answer
-effect_served w s n c e quiet free = cc
+effect_served w s n c e quiet free = subst (λ r. Served s r) (sym (effect_did w s n c e))
+    (all_keep w n c {R = λ r q. pass_duty (cpu_of r c.0).duty ≡ duty.Nothing → Served r q} (λ r f. C.same_kept served_part r) (λ r q x a b f. C.then_kept served_part r q x (a f) (b ((a f).each c.0 ∙ f)))
+    is_lockless_deed (λ r d is. deed_served w n c r d is) s (deeds e) quiet free)
 
 pub quiet_served : (w : Work) (s : State) (n : ℕ) (c : CpuId) (e : Event) → is_lockless e ≡ true → pass_duty (cpu_of s c.0).duty ≡ duty.Nothing → Served s (after w s n c e)
 unfolding after

@@ -4,30 +4,21 @@ use Rattle.sd_machine.specs.Holders as H
 use Rattle.sd_frames.proofs.Parts.{same_item, put_item}
 use Rattle.sd_frames.proofs.CpuWords as C
 use Rattle.sd_types.specs.declared.numbers.CpuId.{CpuId}
-use Rattle.sd_types.specs.declared.numbers.LockId.{LockId}
-use Rattle.sd_types.specs.declared.numbers.SetId.{SetId}
-use Rattle.sd_types.specs.declared.events.AssignAnswer.{AssignAnswer}
-use Rattle.sd_types.specs.declared.events.AssignAnswer.TheVariants as assign
 use Rattle.sd_types.specs.declared.events.BindAnswer.{BindAnswer}
 use Rattle.sd_types.specs.declared.events.BindAnswer.TheVariants as bind_answer
-use Rattle.sd_types.specs.declared.events.Duty.{Duty}
-use Rattle.sd_types.specs.declared.events.Duty.TheVariants as duty
 use Rattle.sd_types.specs.declared.events.Event.{Event}
-use Rattle.sd_types.specs.declared.events.Event.TheVariants.{Tick, Spin, Idle, Enter, Read, Write, Will, Exit, Grant, CvWait, Assign, Joined, Bind}
+use Rattle.sd_types.specs.declared.events.Event.TheVariants.{Bind}
 use Rattle.sd_types.specs.declared.events.Put.{Put}
 use Rattle.sd_types.specs.declared.works.Work.{Work}
 use Rattle.std.specs.Prelude.{if◌then◌else◌, is_none, is_some, ◌==◌, not, ◌&&◌}
 use Rattle.sd_state.specs.declared.states.CpuState.{CpuState}
 use Rattle.sd_state.specs.declared.states.State.{State}
 use Rattle.sd_state.specs.States.{no_cpu, thread_of, cpu_of, set_of}
-use Rattle.sd_machine.specs.Threads.{runner}
-use Rattle.sd_machine.specs.Changes.{with_body, finish_op, run_tick, set_duty, count_tick, put, put_where, close, join, bind, unbind}
-use Rattle.sd_machine.specs.Dispatching.{class_counts, ticked, spun, idled}
-use Rattle.sd_machine.specs.Locking.{granted}
-use Rattle.sd_machine.specs.SetChanges.{cleared, assigned, joined, rebound, pbound}
+use Rattle.sd_machine.specs.Changes.{with_body, finish_op, set_duty, put, put_where, bind, unbind}
+use Rattle.sd_machine.specs.SetChanges.{rebound, pbound}
 use Rattle.sd_machine.specs.Events.{dropped_duty, drop_ageing, effect, after}
 use Rattle.sd_frames.specs.Causes.{IsCause}
-use Rattle.sd_frames.proofs.PlainWords.{Plain, plain_keeps, drop_keeps}
+use Rattle.sd_frames.proofs.Made.{Kind, Bound, Dutied}
 use Rattle.std.proofs.Common.{get_or, ◌≤◌, inl, inr, ◌⊎◌, zero, suc, [], ◌∷◌}
 use Rattle.std.specs.Prelude.{map}
 use Rattle.std.specs.List.{range_with_len}
@@ -44,8 +35,8 @@ use Rattle.sd_machine.specs.SetChanges.{is_misbound, is_closing, bind_to, bind_p
 use Rattle.sd_machine.specs.Threads.{has_ended}
 use Rattle.sd_machine.proofs.ShapeLemmas.{IsShaped, set_duty_shape, pbound_shape, after_shape}
 use Rattle.sd_machine.proofs.HolderLemmas.{count_same, count_more}
-use Rattle.sd_frames.proofs.Words.{Same, then_same, set_duty_same, plain_same}
-use Rattle.sd_frames.proofs.HoldTable.{bound_part, bound_moves, bound_ops, Goes, owned_bound, read_bound, exited_bound, cv_waited_bound, granted_to_writer_bound, granted_to_reader_bound, willed_bound, pbound_bound, refused_bound}
+use Rattle.sd_frames.proofs.Words.{Same}
+use Rattle.sd_frames.proofs.HoldTable.{bound_part, bound_same, Goes, pbound_bound, refused_bound}
 use Rattle.sd_invariants.proofs.Movers.{bind_thread}
 use Rattle.sd_invariants.proofs.AgreedAfter.{IsReady}
 use Rattle.sd_invariants.proofs.Ready.{IsKept, none_counted}
@@ -56,8 +47,13 @@ number_part x = x.bound
 number_marks : C.Markless number_part
 number_marks = record { marks = λ x u k. refl }
 
-numbers_plain : Plain number_part
-numbers_plain = record { marks = number_marks; duty = λ x d. refl }
+abbrev leaves_number : Kind → Bool
+leaves_number Bound = false
+leaves_number _ = true
+
+number_left : (k : Kind) → leaves_number k ≡ true → C.Leaves number_part k
+number_left Bound is = cc
+number_left _ is = λ x y. refl
 
 abbrev SameNumbers : State → State → Type 0
 SameNumbers s r = C.Kept number_part s r
@@ -65,88 +61,20 @@ SameNumbers s r = C.Kept number_part s r
 then_numbers : (s r q : State) → SameNumbers s r → SameNumbers r q → SameNumbers s q
 then_numbers s r q a b = C.then_kept number_part s r q a b
 
--- Processors.
-
-count_tick_numbers : (w : Work) (s : State) (c : ℕ) → SameNumbers s (count_tick w s c)
-unfolding count_tick
-count_tick_numbers w s c = C.written number_part s c _ refl
-
-class_counts_numbers : (w : Work) (s : State) (c t : ℕ) → SameNumbers s (class_counts w s c t)
-class_counts_numbers w s c t = C.class_counts_kept number_part number_marks w s c t
-
-ticked_numbers : (w : Work) (s : State) (c t : ℕ) → SameNumbers s (ticked w s c t)
-unfolding ticked
-ticked_numbers w s c t = then_numbers s (count_tick w s c) _ (count_tick_numbers w s c) (then_numbers _ (run_tick w (count_tick w s c) t) _ (C.run_tick_kept number_part number_marks w _ t) (class_counts_numbers w _ c t))
-
-spun_numbers : (w : Work) (s : State) (c t : ℕ) → SameNumbers s (spun w s c t)
-unfolding spun
-spun_numbers w s c t = then_numbers s (count_tick w s c) _ (count_tick_numbers w s c) (class_counts_numbers w _ c t)
-
-idled_numbers : (w : Work) (s : State) (c : ℕ) → SameNumbers s (idled w s c)
-unfolding idled
-idled_numbers w s c = count_tick_numbers w s c
-
-close_numbers : (s : State) (d : CpuId) (to : SetId) → SameNumbers s (close s d to)
-unfolding close
-close_numbers s d to = C.then_kept number_part s _ _ (C.open_kept number_part s _ _) (C.written number_part _ d.0 _ refl)
-
-join_numbers : (s : State) (c : CpuId) (to : SetId) → SameNumbers s (join s c to)
-unfolding join
-join_numbers s c to = C.then_kept number_part s _ _ (C.open_kept number_part s _ _) (C.written number_part _ c.0 _ refl)
-
-joined_numbers : (s : State) (c : CpuId) (to : SetId) → SameNumbers s (joined s c to)
-unfolding joined
-joined_numbers s c to = join_numbers s c to
-
-assigned_numbers : (w : Work) (s : State) (t : ℕ) (d : CpuId) (to : SetId) (answer : AssignAnswer) → SameNumbers s (assigned w s t d to answer)
-unfolding assigned
-assigned_numbers w s t d to assign.Changed = C.then_kept number_part s _ _ (close_numbers s d to) (C.then_kept number_part _ (cleared (close s d to) d (runner s d.0)) _ (C.cleared_kept number_part number_marks _ d _) (C.finish_op_kept number_part number_marks w _ t))
-assigned_numbers w s t d to assign.EPERM = C.finish_op_kept number_part number_marks w s t
-assigned_numbers w s t d to assign.EINVAL = C.finish_op_kept number_part number_marks w s t
-assigned_numbers w s t d to assign.EBUSY = C.finish_op_kept number_part number_marks w s t
-
 -- no binding
 abbrev pub is_unbinding : Event → Bool
 is_unbinding (Bind t u d answer) = false
 is_unbinding _ = true
 
-from_dropped : (w : Work) (s : State) (n : ℕ) (c : CpuId) (e : Event) → SameNumbers (drop_ageing s c.0 e) (after w s n c e) → SameNumbers s (after w s n c e)
-from_dropped w s n c e a = then_numbers s (drop_ageing s c.0 e) _ (drop_keeps number_part numbers_plain s c.0 e) a
-
 cpus_same : (w : Work) (s : State) (n : ℕ) (c : CpuId) (e : Event) → is_unbinding e ≡ true → SameNumbers s (after w s n c e)
-unfolding after effect
-cpus_same w s n c (Tick t) quiet = from_dropped w s n c (Tick t) (ticked_numbers w _ c.0 t.0)
-cpus_same w s n c (Spin t l) quiet = from_dropped w s n c (Spin t l) (spun_numbers w _ c.0 t.0)
-cpus_same w s n c Idle quiet = from_dropped w s n c Idle (idled_numbers w _ c.0)
-cpus_same w s n c (Assign t d to answer) quiet = from_dropped w s n c (Assign t d to answer) (assigned_numbers w _ t.0 d to answer)
-cpus_same w s n c (Joined to) quiet = from_dropped w s n c (Joined to) (joined_numbers _ c to)
 cpus_same w s n c (Bind t u d answer) quiet = cc
-cpus_same w s n c e quiet = plain_keeps number_part numbers_plain w s n c e refl
+cpus_same w s n c e quiet = C.after_left number_part leaves_number number_left w refl s n c e refl
 
 -- Threads.
 
-drop_bound : (s : State) (c : ℕ) (e : Event) → Same bound_part s (drop_ageing s c e)
-unfolding drop_ageing
-drop_bound s c e = set_duty_same bound_part s c _
-
-bound_dropped : (w : Work) (s : State) (n : ℕ) (c : CpuId) (e : Event) → Same bound_part (drop_ageing s c.0 e) (after w s n c e) → Same bound_part s (after w s n c e)
-bound_dropped w s n c e a = then_same bound_part s (drop_ageing s c.0 e) _ (drop_bound s c.0 e) a
-
-granted_bound : (w : Work) (s : State) (n : ℕ) (c : CpuId) (l : LockId) (u : ℕ) (at : Put) (d : Duty) → Same bound_part s (granted w s n c l u at d)
-granted_bound w s n c l u at (duty.GrantWriter m) = granted_to_writer_bound w s n c l u at
-granted_bound w s n c l u at d = granted_to_reader_bound w s n l u at
-
 pub threads_same : (w : Work) (s : State) (n : ℕ) (c : CpuId) (e : Event) → is_unbinding e ≡ true → Same bound_part s (after w s n c e)
-unfolding after effect
-threads_same w s n c (Enter t l) quiet = bound_dropped w s n c (Enter t l) (owned_bound w _ t.0 l)
-threads_same w s n c (Read t l) quiet = bound_dropped w s n c (Read t l) (read_bound w _ t.0 l)
-threads_same w s n c (Write t l) quiet = bound_dropped w s n c (Write t l) (owned_bound w _ t.0 l)
-threads_same w s n c (Will l o p at) quiet = bound_dropped w s n c (Will l o p at) (willed_bound w _ n c l o at)
-threads_same w s n c (Exit t l) quiet = bound_dropped w s n c (Exit t l) (exited_bound w _ c t.0 l)
-threads_same w s n c (Grant l u at) quiet = bound_dropped w s n c (Grant l u at) (granted_bound w _ n c l u.0 at _)
-threads_same w s n c (CvWait t j l) quiet = bound_dropped w s n c (CvWait t j l) (cv_waited_bound w _ n c t.0 j l)
 threads_same w s n c (Bind t u d answer) quiet = cc
-threads_same w s n c e quiet = plain_same bound_part bound_moves bound_ops w s n c e refl
+threads_same w s n c e quiet = bound_same w s n c e refl
 
 -- The threads that are bound to a processor.
 
@@ -374,7 +302,7 @@ bound_after w s0 n t u d bind_answer.EBUSY shape inside fits holds = refused_hol
 
 drop_hold : (s : State) (c : ℕ) (e : Event) → BoundHold s → BoundHold (drop_ageing s c e)
 unfolding drop_ageing set_duty
-drop_hold s c e holds = refused_hold s (drop_ageing s c e) (set_duty_shape s c (dropped_duty e (cpu_of s c).duty)) (drop_keeps number_part numbers_plain s c e) (record { each = λ u. refl }) holds
+drop_hold s c e holds = refused_hold s (drop_ageing s c e) (set_duty_shape s c (dropped_duty e (cpu_of s c).duty)) (C.drop_left number_part (number_left Dutied refl) s c e) (record { each = λ u. refl }) holds
 
 pub bound_kept : (w : Work) (s : State) (n : ℕ) (c : CpuId) (e : Event) → IsReady w s → IsCause w s c.0 e → BoundHold s → BoundHold (after w s n c e)
 unfolding after effect drop_ageing set_duty

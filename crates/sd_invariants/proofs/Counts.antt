@@ -12,7 +12,7 @@ use Rattle.sd_basics.proofs.Truths.{and_right}
 use Rattle.sd_types.specs.declared.numbers.CpuId.{CpuId}
 use Rattle.sd_types.specs.declared.events.Entry.{Entry}
 use Rattle.sd_types.specs.declared.events.Event.{Event}
-use Rattle.sd_types.specs.declared.events.Event.TheVariants.{Tick, Spin, Idle, Assign, Joined, Bind}
+use Rattle.sd_types.specs.declared.events.Event.TheVariants.{Tick, Spin, Idle}
 use Rattle.sd_types.specs.declared.works.Work.{Work}
 use Rattle.sd_types.specs.Events.{ticks}
 use Rattle.sd_state.specs.declared.states.CpuState.{CpuState}
@@ -20,18 +20,17 @@ use Rattle.sd_state.specs.declared.states.State.{State}
 use Rattle.sd_state.specs.Accounts.{cpu_ticks}
 use Rattle.sd_state.specs.Opening.{opening}
 use Rattle.sd_state.specs.States.{no_cpu, cpu_of}
-use Rattle.sd_machine.specs.Changes.{counted, run_tick, count_tick, close, set_duty}
-use Rattle.sd_machine.specs.Dispatching.{ticked, spun, idled}
-use Rattle.sd_machine.specs.Events.{may_tick, drop_ageing, effect, after}
+use Rattle.sd_machine.specs.Changes.{counted, count_tick, close, set_duty}
+use Rattle.sd_machine.specs.Events.{may_tick, drop_ageing, after}
 use Rattle.sd_machine.specs.Runs.{final, IsRunFrom}
 use Rattle.sd_machine.proofs.RunLemmas.{IsRun-from}
 use Rattle.sd_frames.specs.Causes.{IsCause}
 use Rattle.sd_invariants.specs.Laws.{HoldsWhenReached}
 use Rattle.sd_invariants.proofs.AgreedAfter.{IsReady}
-use Rattle.sd_frames.proofs.CpuWords as C
-use Rattle.sd_frames.proofs.PlainWords.{plain_keeps, drop_keeps}
+use Rattle.sd_machine.specs.Deeds.{Deed, CountsTick, RunsTick, CountsClass, all_did, deeds}
+use Rattle.sd_machine.proofs.DeedLemmas.{effect_did}
 use Rattle.sd_invariants.proofs.Ready.{kept_reached, reached_ready, next_ready, opening_ready}
-use Rattle.sd_invariants.proofs.CountLemmas.{count_marks, counts_plain, first_count, joined_counts, assigned_counts, pbound_counts, SameCounts, count_part}
+use Rattle.sd_invariants.proofs.CountLemmas.{first_count, counts_same, counts_after, drop_counts, SameCounts, count_part}
 use Rattle.sd_invariants.specs.Ticks.{CountsStayClose, CountsRiseByTicks, CountsAreTicks}
 
 -- how each count rises by an entry of processor c, which takes a tick or does not
@@ -76,20 +75,6 @@ count_rises w s c = record { each = λ d inside. by d inside (c == d) refl }
         let at : (get_or (set s.cpus c more) d no_cpu).count ≡ (cpu_of s d).count = ap count_part (get_or-set_other s.cpus c d more no_cpu (other d is)) in
         omega (arith, at)
 
-ticked_rises : (w : Work) (s : State) (c t : ℕ) → Rises true c s (ticked w s c t)
-unfolding ticked
-ticked_rises w s c t =
-    rises_then true c s (count_tick w s c) _ (count_rises w s c)
-    (C.then_kept count_part _ (run_tick w (count_tick w s c) t) _ (C.run_tick_kept count_part count_marks w _ t) (C.class_counts_kept count_part count_marks w _ c t))
-
-spun_rises : (w : Work) (s : State) (c t : ℕ) → Rises true c s (spun w s c t)
-unfolding spun
-spun_rises w s c t = rises_then true c s (count_tick w s c) _ (count_rises w s c) (C.class_counts_kept count_part count_marks w _ c t)
-
-idled_rises : (w : Work) (s : State) (c : ℕ) → Rises true c s (idled w s c)
-unfolding idled
-idled_rises w s c = count_rises w s c
-
 -- Each event.
 
 dropped_many : (s : State) (c : ℕ) (e : Event) → length (drop_ageing s c e).cpus ≡ length s.cpus
@@ -97,17 +82,20 @@ unfolding drop_ageing set_duty
 dropped_many s c e = length-set s.cpus c _
 
 after_dropped : (tick : Bool) (s q : State) (c : ℕ) (e : Event) → Rises tick c (drop_ageing s c e) q → Rises tick c s q
-after_dropped tick s q c e rises = then_rises tick c s (drop_ageing s c e) q (drop_keeps count_part counts_plain s c e) (dropped_many s c e) rises
+after_dropped tick s q c e rises = then_rises tick c s (drop_ageing s c e) q (drop_counts s c e) (dropped_many s c e) rises
+
+tick_rises : (w : Work) (s : State) (n : ℕ) (c : CpuId) (e : Event) (ds : List Deed) → deeds e ≡ CountsTick ∷ ds → ((r : State) → SameCounts r (all_did w n c r ds)) → Rises true c.0 s (after w s n c e)
+unfolding after
+tick_rises w s n c e ds is same =
+    let r : State = drop_ageing s c.0 e in
+    subst (λ q. Rises true c.0 s q) (sym (effect_did w r n c e ∙ ap (λ xs. all_did w n c r xs) is))
+    (after_dropped true s _ c.0 e (rises_then true c.0 r (count_tick w r c.0) _ (count_rises w r c.0) (same (count_tick w r c.0))))
 
 after_rises : (w : Work) (s : State) (n : ℕ) (c : CpuId) (e : Event) → Rises (ticks e) c.0 s (after w s n c e)
-unfolding after effect
-after_rises w s n c (Tick t) = after_dropped true s _ c.0 (Tick t) (ticked_rises w (drop_ageing s c.0 (Tick t)) c.0 t.0)
-after_rises w s n c (Spin t l) = after_dropped true s _ c.0 (Spin t l) (spun_rises w (drop_ageing s c.0 (Spin t l)) c.0 t.0)
-after_rises w s n c Idle = after_dropped true s _ c.0 Idle (idled_rises w (drop_ageing s c.0 Idle) c.0)
-after_rises w s n c (Assign t d to answer) = after_dropped false s _ c.0 (Assign t d to answer) (stay c.0 _ _ (assigned_counts w (drop_ageing s c.0 (Assign t d to answer)) t.0 d to answer))
-after_rises w s n c (Joined to) = after_dropped false s _ c.0 (Joined to) (stay c.0 _ _ (joined_counts (drop_ageing s c.0 (Joined to)) c to))
-after_rises w s n c (Bind t u d answer) = after_dropped false s _ c.0 (Bind t u d answer) (stay c.0 _ _ (pbound_counts w (drop_ageing s c.0 (Bind t u d answer)) n t.0 u.0 d answer))
-after_rises w s n c e = stay c.0 s (after w s n c e) (plain_keeps count_part counts_plain w s n c e refl)
+after_rises w s n c (Tick t) = tick_rises w s n c (Tick t) (RunsTick t.0 ∷ CountsClass t.0 ∷ []) refl (λ r. counts_after w n c r (RunsTick t.0 ∷ CountsClass t.0 ∷ []) refl)
+after_rises w s n c (Spin t l) = tick_rises w s n c (Spin t l) (CountsClass t.0 ∷ []) refl (λ r. counts_after w n c r (CountsClass t.0 ∷ []) refl)
+after_rises w s n c Idle = tick_rises w s n c Idle [] refl (λ r. counts_after w n c r [] refl)
+after_rises w s n c e = stay c.0 s (after w s n c e) (counts_same w s n c e refl)
 
 pub rise_law : CountsRiseByTicks
 rise_law = λ w n s c hints e reached makes d there.

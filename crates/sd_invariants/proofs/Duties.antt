@@ -1,5 +1,5 @@
 -- The locks, channels and threads that duties name are there.
-use Rattle.std.proofs.Common.{◌≡◌, ℕ, zero, suc, ◌+◌, ◌-◌, ◌%◌, ◌<◌, ◌≤◌, Bool, true, false, ◌||◌, List, [], ◌∷◌, length, get_or, Option, Some, None, is_none, sym, subst, inl, inr, arith}
+use Rattle.std.proofs.Common.{◌≡◌, refl, ℕ, zero, suc, ◌+◌, ◌-◌, ◌%◌, ◌<◌, ◌≤◌, Bool, true, false, ◌||◌, List, [], ◌∷◌, length, get_or, Option, Some, None, sym, subst, inl, inr, arith}
 use Rattle.std.specs.Prelude.{⊤, if◌then◌else◌, is_some, int_lt, nat_lt, nat_le, ◌==◌, map, Result, Ok, Err, ◌&&◌}
 use Rattle.std.specs.Ordering.{int_eq}
 use Rattle.std.specs.List.{range_with_len}
@@ -15,8 +15,7 @@ use Rattle.sd_types.specs.declared.events.Denied.{Denied}
 use Rattle.sd_types.specs.declared.events.Duty.{Duty}
 use Rattle.sd_types.specs.declared.events.Duty.TheVariants as duty
 use Rattle.sd_types.specs.declared.events.Event.{Event}
-use Rattle.sd_types.specs.declared.events.Event.TheVariants.{Tick, Spin, Idle, Dispatch, Steal, Preempt, Yield, Done, Nap, Napend, Sleep, Wake, Wakeall, Rouse, Enter, Read, Write, Block, Will, End as WalkEnd, Exit, Unblock, Grant, Passed, Age, Prio, CvWait, SemaP, SemaWait, SemaVWake, SemaVCount, Assign, Move, Joined, Bind, Away}
-use Rattle.sd_types.specs.declared.events.PrioAnswer.{PrioAnswer}
+use Rattle.sd_types.specs.declared.events.Event.TheVariants.{Wakeall, Block, Will, Grant, Age, Prio}
 use Rattle.sd_types.specs.declared.events.PrioAnswer.TheVariants.{Changed, Refused}
 use Rattle.sd_types.specs.declared.events.Put.{Put}
 use Rattle.sd_types.specs.declared.scripts.Op.{Op}
@@ -34,23 +33,23 @@ use Rattle.sd_state.specs.declared.states.State.{State}
 use Rattle.sd_state.specs.States.{no_cpu, thread_of, cpu_of, with_cpu, eff_of}
 use Rattle.sd_state.specs.Operations.{op_of}
 use Rattle.sd_state.specs.Opening.{first_cpu_state, opening}
-use Rattle.sd_machine.specs.Threads.{thread_id, lock_of, with_lock, best_waiter, best_sleeper, best_sleeper_below, priority_of, has_waiters, greatest_waiting}
+use Rattle.sd_machine.specs.Threads.{thread_id, lock_of, with_lock, best_waiter, best_sleeper_below, priority_of, has_waiters, greatest_waiting}
 use Rattle.sd_machine.specs.Bodies.{aged_class}
-use Rattle.sd_machine.specs.Changes.{back_key, run_tick, set_class, set_number, set_looped, set_duty, duty_after, counted, count_tick}
-use Rattle.sd_machine.specs.Dispatching.{class_counts, ticked, spun, idled}
-use Rattle.sd_machine.specs.Sleeping.{woken, woke_all, roused_on, rouse_key, roused}
-use Rattle.sd_machine.specs.Locking.{kind_of, writer_first, after_reader, after_owner, free_or_passed, release_from, exited, unblocked_on, unblocked, granted, passed_on, passed}
+use Rattle.sd_machine.specs.Changes.{back_key, set_class, set_number, set_looped, set_duty, duty_after, counted, count_tick}
+use Rattle.sd_machine.specs.Sleeping.{woken, roused_on, rouse_key, roused}
+use Rattle.sd_machine.specs.Locking.{kind_of, writer_first, after_reader, after_owner, free_or_passed, release_from, unblocked_on, granted, passed_on, passed}
 use Rattle.sd_machine.specs.Requeueing.{reordered}
-use Rattle.sd_machine.specs.Walking.{is_back, next_walk, walked, willed, walk_ended}
-use Rattle.sd_machine.specs.Prioritising.{answer_to, new_class, walk_from, changed_by, changed_on, reprioritised, lifted, aged}
-use Rattle.sd_machine.specs.Conditions.{cv_waited}
+use Rattle.sd_machine.specs.Walking.{is_back, next_walk, walked, willed}
+use Rattle.sd_machine.specs.Prioritising.{answer_to, new_class, walk_from, changed_by, changed_on, lifted, aged}
+use Rattle.sd_machine.specs.Deeds.{Deed, CountsTick, OrdersWake, Rouses, BeginsWalk, WalksOn, EndsDuty, FreesLock, FreesLast, GrantsLock, PassesLock, Lifts, Reclasses, did, deeds}
+use Rattle.sd_machine.proofs.DeedLemmas.{AllAlong, quiet_along, keeps_along, effect_did}
 use Rattle.sd_machine.specs.Events.{keeps_ageing, dropped_duty, drop_ageing, effect, after}
 use Rattle.sd_machine.proofs.ShapeLemmas.{set_duty_shape}
 use Rattle.sd_frames.specs.Causes.{IsCause}
 use Rattle.sd_invariants.specs.Laws.{HoldsWhenReached}
 use Rattle.sd_frames.proofs.CpuWords as C
 use Rattle.sd_frames.proofs.LockTable as T
-use Rattle.sd_frames.proofs.LockTable.{duty_part, duty_marks}
+use Rattle.sd_frames.proofs.LockTable.{duty_part, duty_marks, leaves_duty, duty_left}
 use Rattle.sd_frames.proofs.Found.{runner_found, age_found}
 use Rattle.sd_invariants.proofs.Movers.{owner_thread, prio_thread}
 use Rattle.sd_frames.proofs.Parts.{put_item}
@@ -58,7 +57,6 @@ use Rattle.sd_invariants.proofs.Whole.{IsWhole, reached_whole}
 use Rattle.sd_invariants.proofs.Induction.{held_reached}
 use Rattle.sd_invariants.proofs.Named.{acts_named, sleep_chan, wants_lock}
 use Rattle.sd_invariants.proofs.Places.{PlacesAreThere, places_are_there}
-use Rattle.sd_frames.proofs.SetDuties.{joined_duties, assigned_duties, pbound_duties}
 
 -- A duty to pass a lock on is left out: its lock is one that is being passed on.
 abbrev pub IsNamed : Work → Duty → Type 0
@@ -102,30 +100,7 @@ module _ (w : Work) where
   unfolding count_tick
   count_tick_named s c h = named_written s c (counted w (cpu_of s c)) (after_tick ((cpu_of s c).count + 1) (cpu_of s c).duty (h c)) h
 
-  class_counts_named : (s : State) (c t : ℕ) → DutiesNamed w s → DutiesNamed w (class_counts w s c t)
-  class_counts_named s c t h = named_kept s _ (C.class_counts_kept duty_part duty_marks w s c t) h
-
-  ticked_named : (s : State) (c t : ℕ) → DutiesNamed w s → DutiesNamed w (ticked w s c t)
-  unfolding ticked
-  ticked_named s c t h = class_counts_named (run_tick w (count_tick w s c) t) c t (named_kept (count_tick w s c) _ (C.run_tick_kept duty_part duty_marks w _ t) (count_tick_named s c h))
-
-  spun_named : (s : State) (c t : ℕ) → DutiesNamed w s → DutiesNamed w (spun w s c t)
-  unfolding spun
-  spun_named s c t h = class_counts_named (count_tick w s c) c t (count_tick_named s c h)
-
-  idled_named : (s : State) (c : ℕ) → DutiesNamed w s → DutiesNamed w (idled w s c)
-  unfolding idled
-  idled_named s c h = count_tick_named s c h
-
   -- Sleepers.
-
-  woke_all_named : (s : State) (n : ℕ) (c : CpuId) (t : ℕ) (k : ChanId) → k.0 < length w.chans → DutiesNamed w s → DutiesNamed w (woke_all w s n c t k)
-  unfolding woke_all
-  woke_all_named s n c t k there h = named_kept (if is_none (best_sleeper s k.0) then s else set_duty s c.0 (duty.Rouse k (back_key n))) _ (C.finish_op_kept duty_part duty_marks w _ t) (by (is_none (best_sleeper s k.0)))
-    where
-      by : (b : Bool) → DutiesNamed w (if b then s else set_duty s c.0 (duty.Rouse k (back_key n)))
-      by true = h
-      by false = named_duty s c.0 (duty.Rouse k (back_key n)) there h
 
   roused_named : (s : State) (n : ℕ) (c : CpuId) (k : ChanId) (u : Option (ThreadId × Put)) (d : Duty) → DutiesNamed w s → DutiesNamed w (roused w s n c k u d)
   unfolding roused
@@ -167,10 +142,6 @@ module _ (w : Work) where
       (named_duty _ c.0 (next_walk (cpu_of s c.0).duty o (thread_of s o.0).body.looped (thread_of s o.0).place)
       (next_named (cpu_of s c.0).duty o (thread_of s o.0).body.looped (thread_of s o.0).place inside there (h c.0)) (named_kept s _ before h))
 
-  walk_ended_named : (s : State) (c : CpuId) → DutiesNamed w s → DutiesNamed w (walk_ended s c)
-  unfolding walk_ended
-  walk_ended_named s c h = named_duty s c.0 duty.Nothing tt h
-
   walk_from_named : (s : State) (c : CpuId) (u : ThreadId) (p : Place) → u.0 < length w.threads → IsPlaceThere w p → DutiesNamed w s → DutiesNamed w (walk_from s c u p)
   walk_from_named s c u (Waiting l side k) inside there h = named_duty s c.0 (duty.Walk l u k) (there, inside) h
   walk_from_named s c u p inside there h = h
@@ -184,12 +155,6 @@ module _ (w : Work) where
   changed_on_named : (s : State) (n : ℕ) (c : CpuId) (t : ℕ) (u : ThreadId) (at : Option Put) (o : Option Op) → u.0 < length w.threads → IsPlaceThere w (thread_of s u.0).place → DutiesNamed w s → DutiesNamed w (changed_on w s n c t u at o)
   changed_on_named s n c t u at (Some (op.Prio v r)) inside there h = changed_by_named s n c u at (answer_to w s t u.0 r) inside there h
   changed_on_named s n c t u at _ inside there h = h
-
-  reprioritised_named : (s : State) (n : ℕ) (c : CpuId) (t : ℕ) (u : ThreadId) (answer : PrioAnswer) → u.0 < length w.threads → IsPlaceThere w (thread_of s u.0).place → DutiesNamed w s → DutiesNamed w (reprioritised w s n c t u answer)
-  unfolding reprioritised
-  reprioritised_named s n c t u (Changed p at) inside there h =
-      named_kept (changed_on w s n c t u at (op_of w t (thread_of s t).body)) _ (C.finish_op_kept duty_part duty_marks w _ t) (changed_on_named s n c t u at (op_of w t (thread_of s t).body) inside there h)
-  reprioritised_named s n c t u (Refused d) inside there h = named_kept s _ (C.finish_op_kept duty_part duty_marks w s t) h
 
   -- Ageing.
 
@@ -230,20 +195,6 @@ module _ (w : Work) where
       by false = h
   release_named s c l (Passing d r) h = h
 
-  exited_named : (s : State) (c : CpuId) (t : ℕ) (l : LockId) → DutiesNamed w s → DutiesNamed w (exited w s c t l)
-  exited_named s c t l h = named_kept (release_from w s c l (lock_of s l.0)) _ (T.exited_duties w s c t l) (release_named s c l (lock_of s l.0) h)
-
-  cv_waited_named : (s : State) (n : ℕ) (c : CpuId) (t : ℕ) (k : ChanId) (l : LockId) → DutiesNamed w s → DutiesNamed w (cv_waited w s n c t k l)
-  cv_waited_named s n c t k l h = named_kept (release_from w s c l (lock_of s l.0)) _ (T.cv_waited_duties w s n c t k l) (release_named s c l (lock_of s l.0) h)
-
-  unblocked_named : (s : State) (n : ℕ) (c : CpuId) (l : LockId) (u : ℕ) (at : Put) → DutiesNamed w s → DutiesNamed w (unblocked w s n c l u at)
-  unfolding unblocked
-  unblocked_named s n c l u at h = by (has_waiters (woken w s n u at) l.0) (named_kept s _ (T.woken_duties w s n u at) h)
-    where
-      by : (b : Bool) → DutiesNamed w (woken w s n u at) → DutiesNamed w (unblocked_on (woken w s n u at) c l b)
-      by true g = g
-      by false g = named_duty (with_lock (woken w s n u at) l.0 Free) c.0 duty.Nothing tt g
-
   granted_named : (s : State) (n : ℕ) (c : CpuId) (l : LockId) (u : ℕ) (at : Put) (d : Duty) → c.0 < length s.cpus → DutiesNamed w s → DutiesNamed w (granted w s n c l u at d)
   granted_named s n c l u at (duty.GrantWriter m) here h = named_put s _ c.0 duty.Nothing (T.granted_to_writer_duty w s n c l u at here) tt h
   granted_named s n c l u at d here h = named_kept s _ (T.granted_to_reader_duties w s n l u at) h
@@ -276,44 +227,69 @@ module _ (w : Work) where
   Needs places (Prio t u answer) = (u.0 < length w.threads) × IsPlaceThere w (places u.0)
   Needs places _ = ⊤
 
+  unblocked_on_named : (s : State) (c : CpuId) (l : LockId) (b : Bool) → DutiesNamed w s → DutiesNamed w (unblocked_on s c l b)
+  unblocked_on_named s c l true h = h
+  unblocked_on_named s c l false h = named_duty (with_lock s l.0 Free) c.0 duty.Nothing tt h
+
+  wake_named : (s : State) (n : ℕ) (c : CpuId) (k : ChanId) (b : Bool) → k.0 < length w.chans → DutiesNamed w s → DutiesNamed w (if b then s else set_duty s c.0 (duty.Rouse k (back_key n)))
+  wake_named s n c k true there h = h
+  wake_named s n c k false there h = named_duty s c.0 (duty.Rouse k (back_key n)) there h
+
+  -- what a deed asks of the state in which it is done
+  abbrev Asks : CpuId → State → Deed → Type 0
+  Asks c s (OrdersWake k) = k.0 < length w.chans
+  Asks c s (BeginsWalk t l) = (l.0 < length w.locks) × (t < length w.threads)
+  Asks c s (WalksOn l o at) = (o.0 < length w.threads) × IsPlaceThere w (thread_of s o.0).place
+  Asks c s (Lifts t) = t < length w.threads
+  Asks c s (Reclasses t u answer) = (u.0 < length w.threads) × IsPlaceThere w (thread_of s u.0).place
+  Asks c s (GrantsLock l u at) = c.0 < length s.cpus
+  Asks c s _ = ⊤
+
+  abbrev asks_none : Deed → Bool
+  asks_none (OrdersWake k) = false
+  asks_none (BeginsWalk t l) = false
+  asks_none (WalksOn l o at) = false
+  asks_none (Lifts t) = false
+  asks_none (Reclasses t u answer) = false
+  asks_none (GrantsLock l u at) = false
+  asks_none _ = true
+
+  none_asked : (c : CpuId) (s : State) (d : Deed) → asks_none d ≡ true → Asks c s d
+  none_asked c s (OrdersWake k) none = cc
+  none_asked c s (BeginsWalk t l) none = cc
+  none_asked c s (WalksOn l o at) none = cc
+  none_asked c s (Lifts t) none = cc
+  none_asked c s (Reclasses t u answer) none = cc
+  none_asked c s (GrantsLock l u at) none = cc
+  none_asked c s _ none = tt
+
+  deed_named : (n : ℕ) (c : CpuId) (s : State) (d : Deed) → Asks c s d → DutiesNamed w s → DutiesNamed w (did w n c s d)
+  deed_named n c s CountsTick asks h = count_tick_named s c.0 h
+  deed_named n c s (OrdersWake k) asks h = wake_named s n c k _ asks h
+  deed_named n c s (Rouses k u) asks h = roused_named s n c k u (cpu_of s c.0).duty h
+  deed_named n c s (BeginsWalk t l) asks h = named_duty s c.0 (duty.Walk l (thread_id t) (back_key n)) asks h
+  deed_named n c s (WalksOn l o at) asks h = willed_named s n c l o at asks.0 asks.1 h
+  deed_named n c s EndsDuty asks h = named_duty s c.0 duty.Nothing tt h
+  deed_named n c s (FreesLock l) asks h = release_named s c l (lock_of s l.0) h
+  deed_named n c s (FreesLast l) asks h = unblocked_on_named s c l (has_waiters s l.0) h
+  deed_named n c s (GrantsLock l u at) asks h = granted_named s n c l u at (cpu_of s c.0).duty asks h
+  deed_named n c s (PassesLock l) asks h = passed_named s c l h
+  deed_named n c s (Lifts t) asks h = aged_named s n c t asks h
+  deed_named n c s (Reclasses t u (Changed p at)) asks h = changed_on_named s n c t u at (op_of w t (thread_of s t).body) asks.0 asks.1 h
+  deed_named n c s (Reclasses t u (Refused denied)) asks h = h
+  deed_named n c s d asks h = named_kept s _ (C.deed_left duty_part leaves_duty duty_left w n c s d refl) h
+
+  event_asks : (s : State) (n : ℕ) (c : CpuId) (e : Event) → c.0 < length s.cpus → Needs (λ t. (thread_of s t).place) e → AllAlong w n c (Asks c) s (deeds e)
+  event_asks s n c (Wakeall t k) here needs = (needs, (tt, tt))
+  event_asks s n c (Block t l) here needs = (tt, (needs, tt))
+  event_asks s n c (Will l o p at) here needs = (needs, tt)
+  event_asks s n c (Grant l u at) here needs = (here, tt)
+  event_asks s n c (Age t p) here needs = (needs, tt)
+  event_asks s n c (Prio t u answer) here needs = (needs, (tt, tt))
+  event_asks s n c e here needs = quiet_along w n c (Asks c) asks_none (none_asked c) s (deeds e) refl
+
   effect_named : (s : State) (n : ℕ) (c : CpuId) (e : Event) → c.0 < length s.cpus → Needs (λ t. (thread_of s t).place) e → DutiesNamed w s → DutiesNamed w (effect w s n c e)
-  unfolding effect
-  effect_named s n c (Tick t) here needs h = ticked_named s c.0 t.0 h
-  effect_named s n c (Spin t l) here needs h = spun_named s c.0 t.0 h
-  effect_named s n c Idle here needs h = idled_named s c.0 h
-  effect_named s n c (Wakeall t k) here needs h = woke_all_named s n c t.0 k needs h
-  effect_named s n c (Rouse k u) here needs h = roused_named s n c k u (cpu_of s c.0).duty h
-  effect_named s n c (Block t l) here needs h = named_put s _ c.0 (duty.Walk l (thread_id t.0) (back_key n)) (T.blocked_duty w s n c t.0 l here) needs h
-  effect_named s n c (Will l o p at) here needs h = willed_named s n c l o at needs.0 needs.1 h
-  effect_named s n c (WalkEnd l) here needs h = walk_ended_named s c h
-  effect_named s n c (Exit t l) here needs h = exited_named s c t.0 l h
-  effect_named s n c (Unblock l u at) here needs h = unblocked_named s n c l u.0 at h
-  effect_named s n c (Grant l u at) here needs h = granted_named s n c l u.0 at (cpu_of s c.0).duty here h
-  effect_named s n c (Passed l) here needs h = passed_named s c l h
-  effect_named s n c (Age t p) here needs h = aged_named s n c t.0 needs h
-  effect_named s n c (Prio t u answer) here needs h = reprioritised_named s n c t.0 u answer needs.0 needs.1 h
-  effect_named s n c (CvWait t k l) here needs h = cv_waited_named s n c t.0 k l h
-  effect_named s n c (Assign t d to answer) here needs h = named_kept s _ (assigned_duties w s t.0 d to answer) h
-  effect_named s n c (Joined to) here needs h = named_kept s _ (joined_duties s c to) h
-  effect_named s n c (Bind t u d answer) here needs h = named_kept s _ (pbound_duties w s n t.0 u.0 d answer) h
-  effect_named s n c (Dispatch t p) here needs h = named_kept s _ (C.dispatched_kept duty_part duty_marks s c t.0) h
-  effect_named s n c (Steal v t p) here needs h = named_kept s _ (C.stolen_kept duty_part duty_marks s c t.0) h
-  effect_named s n c (Preempt t end) here needs h = named_kept s _ (C.preempted_kept duty_part duty_marks w s n c t.0 end) h
-  effect_named s n c (Away t d) here needs h = named_kept s _ (C.sent_away_kept duty_part duty_marks s n c t.0 d) h
-  effect_named s n c (Yield t) here needs h = named_kept s _ (C.yielded_kept duty_part duty_marks w s n c t.0) h
-  effect_named s n c (Done t) here needs h = named_kept s _ (C.done_kept duty_part duty_marks s c t.0) h
-  effect_named s n c (Nap t) here needs h = named_kept s _ (C.napped_kept duty_part duty_marks w s c t.0) h
-  effect_named s n c (Napend t at) here needs h = named_kept s _ (C.woken_kept duty_part duty_marks w s n t.0 at) h
-  effect_named s n c (Sleep t k) here needs h = named_kept s _ (C.fallen_asleep_kept duty_part duty_marks w s n c t.0 k) h
-  effect_named s n c (Wake t k u) here needs h = named_kept s _ (C.woke_kept duty_part duty_marks w s n t.0 u) h
-  effect_named s n c (Enter t l) here needs h = named_kept s _ (C.owned_kept duty_part duty_marks w s t.0 l) h
-  effect_named s n c (Read t l) here needs h = named_kept s _ (C.read_kept duty_part duty_marks w s t.0 l) h
-  effect_named s n c (Write t l) here needs h = named_kept s _ (C.owned_kept duty_part duty_marks w s t.0 l) h
-  effect_named s n c (SemaP t k) here needs h = named_kept s _ (C.sema_taken_kept duty_part duty_marks w s t.0 k) h
-  effect_named s n c (SemaWait t k) here needs h = named_kept s _ (C.fallen_asleep_kept duty_part duty_marks w s n c t.0 k) h
-  effect_named s n c (SemaVWake t k u at) here needs h = named_kept s _ (C.sema_handed_kept duty_part duty_marks w s n t.0 u.0 at) h
-  effect_named s n c (SemaVCount t k m) here needs h = named_kept s _ (C.sema_counted_kept duty_part duty_marks w s t.0 k) h
-  effect_named s n c (Move t at) here needs h = named_kept s _ (C.moved_kept duty_part duty_marks w s n t.0 at) h
+  effect_named s n c e here needs h = subst (λ r. DutiesNamed w r) (sym (effect_did w s n c e)) (keeps_along w n c (DutiesNamed w) (Asks c) (deed_named n c) s (deeds e) (event_asks s n c e here needs) h)
 
   dropped_named : (e : Event) (d : Duty) → IsNamed w d → IsNamed w (dropped_duty e d)
   dropped_named e (duty.Age u) is = elim (keeps_ageing e) as (λ b. IsNamed w (if b then duty.Age u else duty.Nothing)) [ true ↦ is | false ↦ tt ]

@@ -7,7 +7,7 @@ use Rattle.sd_types.specs.declared.numbers.ThreadId.{ThreadId}
 use Rattle.sd_types.specs.declared.events.BindAnswer.{BindAnswer}
 use Rattle.sd_types.specs.declared.events.BindAnswer.TheVariants as bind_answer
 use Rattle.sd_types.specs.declared.events.Event.{Event}
-use Rattle.sd_types.specs.declared.events.Event.TheVariants.{Dispatch, Steal, Preempt, Yield, Done, Nap, Napend, Sleep, Wake, Rouse, Block, Will, Unblock, Grant, Age, Prio, CvWait, SemaWait, SemaVWake, Move, Bind, Away}
+use Rattle.sd_machine.specs.Deeds.{Whither, ToQueue, ToSleep, ToWait, ToNap, ToEnd, place_to}
 use Rattle.sd_types.specs.declared.events.PrioAnswer.{PrioAnswer}
 use Rattle.sd_types.specs.declared.events.PrioAnswer.TheVariants.{Changed, Refused}
 use Rattle.sd_types.specs.declared.events.Put.{Put}
@@ -20,7 +20,7 @@ use Rattle.sd_state.specs.declared.states.State.{State}
 use Rattle.sd_state.specs.States.{thread_of, set_of, eff_of}
 use Rattle.sd_machine.specs.Changes.{back_key}
 use Rattle.sd_machine.specs.Bodies.{aged_class}
-use Rattle.sd_frames.specs.Moves.{Step, put_step, put_step_if, woken_step, reordered_step, aged_step, prio_step, bind_step, step_of}
+use Rattle.sd_frames.specs.Moves.{Step, put_step, put_step_if, woken_step, reordered_step, aged_step, prio_step, bind_step, step_of, Stride, Comes, Goes, Falls, Leaves, Wakes, WakesAny, Reorders, Rises, Changes, Binds, stride_of, step_by}
 use Rattle.sd_frames.specs.Moves.Step.{Stay, Go}
 use Rattle.sd_frames.proofs.PlaceTable.{Stepped}
 use Rattle.sd_types.specs.declared.bodies.ThreadBody.{ThreadBody}
@@ -101,30 +101,28 @@ bind_new w n u bind_answer.EBUSY = stay_new n
 keyless : (n t : ℕ) (p : Place) → has_key p ≡ false → HasNew n (Go t p)
 keyless n t p none has = absurd (false≢true (sym none ∙ has))
 
+goes_new : (w : Work) (s : State) (n : ℕ) (c : CpuId) (t : ℕ) (whither : Whither) → HasNew n (Go t (place_to w n c s t whither))
+goes_new w s n c t ToQueue = queue_new w n t c (back_key n) (thread_of s t).body (inl refl)
+goes_new w s n c t (ToSleep k) = λ has. inl refl
+goes_new w s n c t (ToWait l) = λ has. inl refl
+goes_new w s n c t ToNap = λ has. absurd (false≢true has)
+goes_new w s n c t ToEnd = keyless n t Ended refl
+
+stride_new : (w : Work) (s : State) (n : ℕ) (c : CpuId) (stride : Option Stride) → HasNew n (step_by w s n c stride)
+stride_new w s n c None = stay_new n
+stride_new w s n c (Some (Comes t)) = keyless n t (Running c) refl
+stride_new w s n c (Some (Goes t whither)) = goes_new w s n c t whither
+stride_new w s n c (Some (Falls t end)) = queue_new w n t c (key_at n end) (thread_of s t).body (end_new n end)
+stride_new w s n c (Some (Leaves t d)) = back_new n t d
+stride_new w s n c (Some (Wakes t at)) = put_new w n t at
+stride_new w s n c (Some (WakesAny u)) = woken_new w n u
+stride_new w s n c (Some (Reorders o at)) = reordered_new w n o.0 at (thread_of s o.0).place
+stride_new w s n c (Some (Rises t)) = aged_new w s n c t
+stride_new w s n c (Some (Changes t u answer)) = prio_new w s n u answer
+stride_new w s n c (Some (Binds u answer)) = bind_new w n u answer
+
 has_new : (w : Work) (s : State) (n : ℕ) (c : CpuId) (e : Event) → HasNew n (step_of w s n c e)
-has_new w s n c (Dispatch t p) = keyless n t.0 (Running c) refl
-has_new w s n c (Steal v t p) = keyless n t.0 (Running c) refl
-has_new w s n c (Preempt t end) = queue_new w n t.0 c (key_at n end) (thread_of s t.0).body (end_new n end)
-has_new w s n c (Away t d) = back_new n t.0 d
-has_new w s n c (Yield t) = queue_new w n t.0 c (back_key n) (thread_of s t.0).body (inl refl)
-has_new w s n c (Done t) = keyless n t.0 Ended refl
-has_new w s n c (Nap t) = λ has. absurd (false≢true has)
-has_new w s n c (Napend t at) = put_new w n t.0 at
-has_new w s n c (Sleep t k) = λ has. inl refl
-has_new w s n c (Wake t k u) = woken_new w n u
-has_new w s n c (Rouse k u) = woken_new w n u
-has_new w s n c (Block t l) = λ has. inl refl
-has_new w s n c (Will l o p at) = reordered_new w n o.0 at (thread_of s o.0).place
-has_new w s n c (Unblock l u at) = put_new w n u.0 at
-has_new w s n c (Grant l u at) = put_new w n u.0 at
-has_new w s n c (Age t p) = aged_new w s n c t.0
-has_new w s n c (Prio t u answer) = prio_new w s n u answer
-has_new w s n c (CvWait t k l) = λ has. inl refl
-has_new w s n c (SemaWait t k) = λ has. inl refl
-has_new w s n c (SemaVWake t k u at) = put_new w n u.0 at
-has_new w s n c (Move t at) = put_new w n t.0 at
-has_new w s n c (Bind t u d answer) = bind_new w n u.0 answer
-has_new w s n c e = stay_new n
+has_new w s n c e = stride_new w s n c (stride_of e)
 
 keys_kept : IsKept (λ w n s. KeysAt n (places s))
 keys_kept = record {

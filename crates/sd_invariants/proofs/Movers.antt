@@ -10,7 +10,7 @@ use Rattle.sd_types.specs.declared.numbers.Side.TheVariants.{Writer, Reader}
 use Rattle.sd_types.specs.declared.events.BindAnswer.{BindAnswer}
 use Rattle.sd_types.specs.declared.events.BindAnswer.TheVariants as bind_answer
 use Rattle.sd_types.specs.declared.events.Event.{Event}
-use Rattle.sd_types.specs.declared.events.Event.TheVariants.{Tick, Spin, Idle, Dispatch, Steal, Preempt, Yield, Done, Nap, Napend, Sleep, Wake, Rouse, Block, Will, Unblock, Grant, Age, Prio, CvWait, SemaWait, SemaVWake, Move, Bind, Away}
+use Rattle.sd_types.specs.declared.events.Event.TheVariants.{Tick, Spin, Idle, Dispatch, Steal, Napend, Wake, Rouse, Will, Unblock, Grant, Age, Prio, SemaVWake, Move, Bind}
 use Rattle.sd_types.specs.declared.events.PrioAnswer.{PrioAnswer}
 use Rattle.sd_types.specs.declared.events.PrioAnswer.TheVariants.{Changed, Refused}
 use Rattle.sd_types.specs.declared.events.Put.{Put}
@@ -37,7 +37,8 @@ use Rattle.sd_machine.specs.SetChanges.{bound_put, unbound_put, bind_put, bind_t
 use Rattle.sd_machine.proofs.PlaceLemmas.{is_waiter}
 use Rattle.sd_frames.specs.Causes.{Acts, WakesBest, RousesBest, IsRequeuedAt, IsAnswered, IsCause}
 use Rattle.sd_invariants.specs.Holding.{lock_state, Agreed}
-use Rattle.sd_frames.specs.Moves.{Step, put_step_if, woken_step, reordered_step, aged_step, prio_step, bind_step, step_of}
+use Rattle.sd_frames.specs.Moves.{Step, put_step_if, woken_step, reordered_step, aged_step, prio_step, bind_step, step_of, Stride, Goes, Falls, Leaves, leaver, stride_of, step_by}
+use Rattle.sd_frames.proofs.Leavers.{leaver_runs}
 use Rattle.sd_frames.specs.Moves.Step.{Stay, Go}
 use Rattle.sd_frames.proofs.Found.{runner_found, ready_found, queued_found, unbound_found, waiter_found, sleeper_found, sleeper_below_found, due_found, age_found}
 use Rattle.sd_frames.proofs.PlaceTable.{IsMoverThere}
@@ -180,32 +181,38 @@ ends_wait (Unblock l u at) = true
 ends_wait (Grant l u at) = true
 ends_wait _ = false
 
+-- a thread that leaves its processor, or none at all
+abbrev is_own : Option Stride → Bool
+is_own None = true
+is_own (Some (Goes t whither)) = true
+is_own (Some (Falls t end)) = true
+is_own (Some (Leaves t d)) = true
+is_own _ = false
+
+own_mover : (w : Work) (s : State) (n : ℕ) (c : CpuId) (stride : Option Stride) → is_own stride ≡ true → ((t : ℕ) → leaver stride ≡ Some t → runner s c.0 ≡ Some t) → MoverIs s (step_by w s n c stride)
+own_mover w s n c None own runs = tt
+own_mover w s n c (Some (Goes t whither)) own runs = runs_mover s c.0 t (runs t refl)
+own_mover w s n c (Some (Falls t end)) own runs = runs_mover s c.0 t (runs t refl)
+own_mover w s n c (Some (Leaves t d)) own runs = runs_mover s c.0 t (runs t refl)
+own_mover w s n c _ own runs = cc
+
 pub mover_of : (w : Work) (s : State) (n : ℕ) (c : CpuId) (e : Event) → ends_wait e ≡ false → FitsFully w s → Agreed s → IsCause w s c.0 e → MoverIs s (step_of w s n c e)
 mover_of w s n c (Dispatch t p) quiet fits agreed cause = let found = ready_found s c.0 t.0 cause.1 in record { inside = found.inside; away = ready_away c.0 (cpu_of s c.0).set.0 (thread_of s t.0).place found.stands }
 mover_of w s n c (Steal v t p) quiet fits agreed cause =
     let found = unbound_found s v.0 t.0 cause.3 in
     record { inside = found.inside; away = queued_away v.0 (thread_of s t.0).place (and_left _ (is_none (thread_of s t.0).body.bound) found.stands) }
-mover_of w s n c (Preempt t end) quiet fits agreed cause = runs_mover s c.0 t.0 cause.0.runs
-mover_of w s n c (Away t d) quiet fits agreed cause = runs_mover s c.0 t.0 cause.0.runs
-mover_of w s n c (Yield t) quiet fits agreed cause = runs_mover s c.0 t.0 cause.runs
-mover_of w s n c (Done t) quiet fits agreed cause = runs_mover s c.0 t.0 cause.runs
-mover_of w s n c (Nap t) quiet fits agreed cause = runs_mover s c.0 t.0 cause.1.runs
 mover_of w s n c (Napend t at) quiet fits agreed cause = let found = due_found s c.0 t.0 cause.0 in record { inside = found.inside; away = due_away c.0 (cpu_of s c.0).count (thread_of s t.0).place found.stands }
-mover_of w s n c (Sleep t k) quiet fits agreed cause = runs_mover s c.0 t.0 cause.runs
 mover_of w s n c (Wake t k u) quiet fits agreed cause = woken_mover w s n k.0 u cause.1
 mover_of w s n c (Rouse k u) quiet fits agreed cause = roused_mover w s n k.0 cause.0 u cause.2
-mover_of w s n c (Block t l) quiet fits agreed cause = runs_mover s c.0 t.0 cause.1.acts.runs
 mover_of w s n c (Will l o p at) quiet fits agreed cause = reordered_mover w s n o.0 p at (thread_of s o.0).place (owner_thread s l o agreed cause.1) cause.3
 mover_of w s n c (Unblock l u at) quiet fits agreed cause = cc
 mover_of w s n c (Grant l u at) quiet fits agreed cause = cc
 mover_of w s n c (Age t p) quiet fits agreed cause = aged_mover w s n c (cause.0).0 t.0 cause.2
 mover_of w s n c (Prio t u answer) quiet fits agreed cause = prio_mover w s n c.0 t.0 u cause.0 answer (prio_thread w s c.0 t.0 u cause.0 fits cause.1) cause.2
-mover_of w s n c (CvWait t k l) quiet fits agreed cause = runs_mover s c.0 t.0 cause.runs
-mover_of w s n c (SemaWait t k) quiet fits agreed cause = runs_mover s c.0 t.0 cause.0.runs
 mover_of w s n c (SemaVWake t k u at) quiet fits agreed cause = let found = sleeper_found s k.0 u.0 cause.1.best in record { inside = found.inside; away = asleep_away k.0 (thread_of s u.0).place found.stands }
 mover_of w s n c (Move t at) quiet fits agreed cause = let found = queued_found s c.0 t.0 cause.1 in record { inside = found.inside; away = queued_away c.0 (thread_of s t.0).place found.stands }
 mover_of w s n c (Bind t u d answer) quiet fits agreed cause = bind_mover w s n t.0 u.0 d answer (bind_thread w s c.0 t.0 u d fits cause.0) cause.1
-mover_of w s n c e quiet fits agreed cause = tt
+mover_of w s n c e quiet fits agreed cause = own_mover w s n c (stride_of e) refl (leaver_runs w s c.0 e cause)
 
 mover_is_there : (s : State) (step : Step) → MoverIs s step → IsMoverThere s step
 mover_is_there s Stay is = tt

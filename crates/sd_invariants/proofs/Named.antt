@@ -27,6 +27,7 @@ use Rattle.sd_state.specs.declared.states.State.{State}
 use Rattle.sd_state.specs.Operations.{script_of}
 use Rattle.sd_state.specs.States.{thread_of, set_of}
 use Rattle.sd_frames.specs.Causes.{Acts, Wants, wants}
+use Rattle.sd_frames.proofs.Leavers.{chan_named, lock_named}
 use Rattle.sd_invariants.proofs.Works.{op_named}
 use Rattle.sd_state.proofs.Declared.{declared}
 
@@ -78,6 +79,25 @@ wait_chan w k l e = chan_inside w k is_chan refl (and_left _ (is_mutex (slice_ge
 
 pub wait_lock : (w : Work) (k : ChanId) (l : LockId) → op_names (declared w) (op.CvWait k l) ≡ true → l.0 < length w.locks
 wait_lock w k l e = lock_inside w l is_mutex refl (and_right (is_chan (slice_get (declared w).chans k.0)) _ e)
+
+-- whatever operation it is
+
+pub named_chan : (w : Work) (o : Op) (k : ChanId) → op_names (declared w) o ≡ true → chan_named o ≡ Some k → k.0 < length w.chans
+named_chan w (op.Sleep j) k e is = subst (λ (x : ChanId). x.0 < length w.chans) (same_Some j k is) (sleep_chan w j e)
+named_chan w (op.Wake j) k e is = subst (λ (x : ChanId). x.0 < length w.chans) (same_Some j k is) (sleep_chan w j e)
+named_chan w (op.WakeAll j) k e is = subst (λ (x : ChanId). x.0 < length w.chans) (same_Some j k is) (sleep_chan w j e)
+named_chan w (op.CvWait j l) k e is = subst (λ (x : ChanId). x.0 < length w.chans) (same_Some j k is) (wait_chan w j l e)
+named_chan w (op.SemaP j) k e is = subst (λ (x : ChanId). x.0 < length w.chans) (same_Some j k is) (sema_chan w j e)
+named_chan w (op.SemaV j) k e is = subst (λ (x : ChanId). x.0 < length w.chans) (same_Some j k is) (sema_chan w j e)
+named_chan w o k e is = cc
+
+pub named_lock : (w : Work) (o : Op) (l : LockId) → op_names (declared w) o ≡ true → lock_named o ≡ Some l → l.0 < length w.locks
+named_lock w (op.Enter m) l e is = subst (λ (x : LockId). x.0 < length w.locks) (same_Some m l is) (enter_lock w m e)
+named_lock w (op.Read m) l e is = subst (λ (x : LockId). x.0 < length w.locks) (same_Some m l is) (read_lock w m e)
+named_lock w (op.Write m) l e is = subst (λ (x : LockId). x.0 < length w.locks) (same_Some m l is) (read_lock w m e)
+named_lock w (op.Exit m) l e is = subst (λ (x : LockId). x.0 < length w.locks) (same_Some m l is) (exit_lock w m e)
+named_lock w (op.CvWait k m) l e is = subst (λ (x : LockId). x.0 < length w.locks) (same_Some m l is) (wait_lock w k m e)
+named_lock w o l e is = cc
 
 pub assign_cpu : (w : Work) (d : CpuId) (to : SetId) → op_names (declared w) (op.Assign d to) ≡ true → d.0 < w.cpus
 assign_cpu w d to e = let less : nat_lt d.0 w.cpus ≡ true = and_left _ (nat_le to.0 (length w.sets)) e in grind (arith, nat_tests)

@@ -8,7 +8,7 @@ use Rattle.sd_types.specs.declared.numbers.ThreadId.{ThreadId}
 use Rattle.sd_types.specs.declared.numbers.Side.{Side}
 use Rattle.sd_types.specs.declared.numbers.Side.TheVariants.{Writer, Reader}
 use Rattle.sd_types.specs.declared.events.Event.{Event}
-use Rattle.sd_types.specs.declared.events.Event.TheVariants.{Enter, Read, Write, Will, Exit, Grant, CvWait, Bind}
+use Rattle.sd_types.specs.declared.events.Event.TheVariants.{Enter, Read, Write, Will, Exit, Grant, CvWait}
 use Rattle.sd_types.specs.declared.events.Put.{Put}
 use Rattle.sd_types.specs.declared.scripts.Op.TheVariants as op
 use Rattle.sd_types.specs.declared.works.Work.{Work}
@@ -37,8 +37,8 @@ use Rattle.sd_machine.specs.Locking.{granted, others_waiting}
 use Rattle.sd_machine.specs.Events.{drop_ageing, effect, after}
 use Rattle.sd_frames.proofs.Parts.{same_item}
 use Rattle.sd_invariants.proofs.BaseLemmas.{IsBelow}
-use Rattle.sd_frames.proofs.Words.{Same, plain_same, set_duty_same, then_same}
-use Rattle.sd_frames.proofs.HoldTable.{held_part, numbers_part, numbers_moves, numbers_ops, Goes, owned_numbers, read_numbers, exited_numbers, cv_waited_numbers, granted_to_writer_numbers, granted_to_reader_numbers, willed_numbers, pbound_numbers}
+use Rattle.sd_frames.proofs.Words.{Same}
+use Rattle.sd_frames.proofs.HoldTable.{held_part, numbers_part, numbers_same, Goes, exited_numbers, cv_waited_numbers, granted_to_writer_numbers, granted_to_reader_numbers, willed_numbers}
 use Rattle.sd_invariants.proofs.ScriptLemmas.{HeldGo, after_held, ender_in, waits_here}
 use Rattle.sd_invariants.proofs.AgreedAfter.{IsReady, not_held, waiter_not_held}
 use Rattle.sd_types.proofs.ScriptLemmas.{held_last}
@@ -52,13 +52,9 @@ NumbersGo s r (Exit t l) = Goes numbers_part s r t.0 (without_number l (thread_o
 NumbersGo s r (CvWait t k l) = Goes numbers_part s r t.0 (without_number l (thread_of s t.0).body.willed.items)
 NumbersGo s r e = Same numbers_part s r
 
-drop_numbers : (s : State) (c : ℕ) (e : Event) → Same numbers_part s (drop_ageing s c e)
-unfolding drop_ageing
-drop_numbers s c e = set_duty_same numbers_part s c _
-
 granted_numbers : (w : Work) (s : State) (n : ℕ) (c : CpuId) (l : LockId) (u : ThreadId) (at : Put) (d : Duty) → u.0 < length s.threads → NumbersGo s (granted w s n c l u.0 at d) (Grant l u at)
 granted_numbers w s n c l u at (duty.GrantWriter m) here = inr (granted_to_writer_numbers w s n c l u.0 at here)
-granted_numbers w s n c l u at d here = inl (granted_to_reader_numbers w s n l u.0 at)
+granted_numbers w s n c l u at d here = inl (granted_to_reader_numbers w s n c l u.0 at)
 
 -- whose inherited priorities an event changes, and in which state
 abbrev IsHolderThere : State → Event → Type 0
@@ -67,9 +63,6 @@ IsHolderThere s (Grant l u at) = u.0 < length s.threads
 IsHolderThere s (Exit t l) = t.0 < length s.threads
 IsHolderThere s (CvWait t k l) = t.0 < length s.threads
 IsHolderThere s e = ⊤
-
-special_numbers : (w : Work) (s : State) (n : ℕ) (c : CpuId) (e : Event) → Same numbers_part (drop_ageing s c.0 e) (after w s n c e) → Same numbers_part s (after w s n c e)
-special_numbers w s n c e a = then_same numbers_part s (drop_ageing s c.0 e) _ (drop_numbers s c.0 e) a
 
 after_numbers : (w : Work) (s : State) (n : ℕ) (c : CpuId) (e : Event) → IsHolderThere s e → NumbersGo s (after w s n c e) e
 unfolding after effect drop_ageing set_duty
@@ -80,11 +73,7 @@ after_numbers w s n c (Grant l u at) here = elim (granted_numbers w (drop_ageing
 ]
 after_numbers w s n c (Exit t l) here = record { put = (exited_numbers w (drop_ageing s c.0 (Exit t l)) c t.0 l here).put }
 after_numbers w s n c (CvWait t k l) here = record { put = (cv_waited_numbers w (drop_ageing s c.0 (CvWait t k l)) n c t.0 k l here).put }
-after_numbers w s n c (Enter t l) here = special_numbers w s n c (Enter t l) (owned_numbers w _ t.0 l)
-after_numbers w s n c (Read t l) here = special_numbers w s n c (Read t l) (read_numbers w _ t.0 l)
-after_numbers w s n c (Write t l) here = special_numbers w s n c (Write t l) (owned_numbers w _ t.0 l)
-after_numbers w s n c (Bind t u d answer) here = special_numbers w s n c (Bind t u d answer) (pbound_numbers w _ n t.0 u.0 d answer)
-after_numbers w s n c e here = plain_same numbers_part numbers_moves numbers_ops w s n c e refl
+after_numbers w s n c e here = numbers_same w s n c e refl
 
 -- Soundness looks at the two lists alone.
 

@@ -9,24 +9,21 @@ use Rattle.sd_types.specs.declared.numbers.CpuId.{CpuId}
 use Rattle.sd_types.specs.declared.numbers.SetId.{SetId}
 use Rattle.sd_types.specs.declared.events.AssignAnswer.{AssignAnswer}
 use Rattle.sd_types.specs.declared.events.AssignAnswer.TheVariants as assign
-use Rattle.sd_types.specs.declared.events.BindAnswer.{BindAnswer}
-use Rattle.sd_types.specs.declared.events.BindAnswer.TheVariants as bind_answer
 use Rattle.sd_types.specs.declared.events.Event.{Event}
-use Rattle.sd_types.specs.declared.events.Event.TheVariants.{Tick, Spin, Idle, SemaP, SemaVCount, Assign, Joined, Bind}
+use Rattle.sd_types.specs.declared.events.Event.TheVariants.{SemaP, SemaVCount, Assign, Joined}
 use Rattle.sd_types.specs.declared.works.Work.{Work}
 use Rattle.std.specs.Prelude.{if◌then◌else◌, nat_lt, ◌==◌, not}
 use Rattle.sd_state.specs.declared.states.CpuState.{CpuState}
 use Rattle.sd_state.specs.declared.states.State.{State}
-use Rattle.sd_state.specs.States.{no_cpu, thread_of, cpu_of}
+use Rattle.sd_state.specs.States.{no_cpu, cpu_of}
 use Rattle.sd_machine.specs.Threads.{count_of, with_count, runner}
-use Rattle.sd_machine.specs.Changes.{with_body, finish_op, run_tick, set_duty, count_tick, put_where, close, join, bind, unbind}
-use Rattle.sd_machine.specs.Dispatching.{class_counts, ticked, spun, idled}
+use Rattle.sd_machine.specs.Changes.{finish_op, set_duty, close, join}
 use Rattle.sd_machine.specs.Conditions.{sema_taken, sema_counted}
-use Rattle.sd_machine.specs.SetChanges.{cleared, assigned, joined, rebound, pbound}
+use Rattle.sd_machine.specs.SetChanges.{cleared, assigned, joined}
 use Rattle.sd_machine.specs.Events.{drop_ageing, effect, after}
 use Rattle.sd_frames.specs.Causes.{IsCause}
 use Rattle.sd_invariants.specs.Laws.{OpenHold, is_in, IsRising}
-use Rattle.sd_frames.proofs.PlainWords.{Plain, plain_keeps, drop_keeps}
+use Rattle.sd_frames.proofs.Made.{Kind, Closed, Joins, Dutied}
 use Rattle.sd_frames.proofs.SideFields.{after_keeps}
 use Rattle.std.proofs.Common.{get_or, ◌≤◌, inl, inr, ◌⊎◌, zero, suc, [], ◌∷◌, ◌||◌}
 use Rattle.std.specs.Prelude.{map, filter}
@@ -135,8 +132,15 @@ place_part x = (x.set, x.closing)
 pub place_marks : C.Markless place_part
 place_marks = record { marks = λ x u k. refl }
 
-pub places_plain : Plain place_part
-places_plain = record { marks = place_marks; duty = λ x d. refl }
+abbrev leaves_place : Kind → Bool
+leaves_place Closed = false
+leaves_place Joins = false
+leaves_place _ = true
+
+place_left : (k : Kind) → leaves_place k ≡ true → C.Leaves place_part k
+place_left Closed is = cc
+place_left Joins is = cc
+place_left _ is = λ x y. refl
 
 abbrev pub SamePlaces : State → State → Type 0
 SamePlaces s r = C.Kept place_part s r
@@ -144,66 +148,19 @@ SamePlaces s r = C.Kept place_part s r
 then_places : (s r q : State) → SamePlaces s r → SamePlaces r q → SamePlaces s q
 then_places s r q a b = C.then_kept place_part s r q a b
 
--- Processors.
-
-count_tick_places : (w : Work) (s : State) (c : ℕ) → SamePlaces s (count_tick w s c)
-unfolding count_tick
-count_tick_places w s c = C.written place_part s c _ refl
-
-class_counts_places : (w : Work) (s : State) (c t : ℕ) → SamePlaces s (class_counts w s c t)
-class_counts_places w s c t = C.class_counts_kept place_part place_marks w s c t
-
-ticked_places : (w : Work) (s : State) (c t : ℕ) → SamePlaces s (ticked w s c t)
-unfolding ticked
-ticked_places w s c t = then_places s (count_tick w s c) _ (count_tick_places w s c) (then_places _ (run_tick w (count_tick w s c) t) _ (C.run_tick_kept place_part place_marks w _ t) (class_counts_places w _ c t))
-
-spun_places : (w : Work) (s : State) (c t : ℕ) → SamePlaces s (spun w s c t)
-unfolding spun
-spun_places w s c t = then_places s (count_tick w s c) _ (count_tick_places w s c) (class_counts_places w _ c t)
-
-idled_places : (w : Work) (s : State) (c : ℕ) → SamePlaces s (idled w s c)
-unfolding idled
-idled_places w s c = count_tick_places w s c
-
-bind_places : (s : State) (t : ℕ) (d : CpuId) → SamePlaces s (bind s t d)
-unfolding bind
-bind_places s t d = C.then_kept place_part s (with_body s t (record (thread_of s t).body { bound = Some d })) _ (C.thread_kept place_part s t _) (C.written place_part _ d.0 _ refl)
-
-unbind_places : (s : State) (t : ℕ) (b : CpuId) → SamePlaces s (unbind s t b)
-unfolding unbind
-unbind_places s t b = C.then_kept place_part s (with_body s t (record (thread_of s t).body { bound = None })) _ (C.thread_kept place_part s t _) (C.written place_part _ b.0 _ refl)
-
-rebound_places : (s : State) (u : ℕ) (d b : Option CpuId) → SamePlaces s (rebound s u d b)
-rebound_places s u (Some d) b = C.then_kept place_part s _ _ (bind_places s u d) (C.called_back_kept place_part place_marks _ d _)
-rebound_places s u None (Some b) = unbind_places s u b
-rebound_places s u None None = C.same_kept place_part s
-
-pbound_places : (w : Work) (s : State) (n t u : ℕ) (d : Option CpuId) (answer : BindAnswer) → SamePlaces s (pbound w s n t u d answer)
-unfolding pbound
-pbound_places w s n t u d (bind_answer.Changed at) = C.then_kept place_part s (rebound s u d (thread_of s u).body.bound) _ (rebound_places s u d _) (C.then_kept place_part _ (put_where w (rebound s u d (thread_of s u).body.bound) n u at) _ (C.put_where_kept place_part place_marks w _ n u at) (C.finish_op_kept place_part place_marks w _ t))
-pbound_places w s n t u d bind_answer.ESRCH = C.finish_op_kept place_part place_marks w s t
-pbound_places w s n t u d bind_answer.EINVAL = C.finish_op_kept place_part place_marks w s t
-pbound_places w s n t u d bind_answer.EPERM = C.finish_op_kept place_part place_marks w s t
-pbound_places w s n t u d bind_answer.EBUSY = C.finish_op_kept place_part place_marks w s t
-
 -- no change of the sets
 abbrev pub is_setless : Event → Bool
 is_setless (Assign t d to answer) = false
 is_setless (Joined to) = false
 is_setless _ = true
 
-from_dropped : (w : Work) (s : State) (n : ℕ) (c : CpuId) (e : Event) → SamePlaces (drop_ageing s c.0 e) (after w s n c e) → SamePlaces s (after w s n c e)
-from_dropped w s n c e a = then_places s (drop_ageing s c.0 e) _ (drop_keeps place_part places_plain s c.0 e) a
-
 pub cpus_same : (w : Work) (s : State) (n : ℕ) (c : CpuId) (e : Event) → is_setless e ≡ true → SamePlaces s (after w s n c e)
-unfolding after effect
-cpus_same w s n c (Tick t) quiet = from_dropped w s n c (Tick t) (ticked_places w _ c.0 t.0)
-cpus_same w s n c (Spin t l) quiet = from_dropped w s n c (Spin t l) (spun_places w _ c.0 t.0)
-cpus_same w s n c Idle quiet = from_dropped w s n c Idle (idled_places w _ c.0)
-cpus_same w s n c (Bind t u d answer) quiet = from_dropped w s n c (Bind t u d answer) (pbound_places w _ n t.0 u.0 d answer)
 cpus_same w s n c (Assign t d to answer) quiet = cc
 cpus_same w s n c (Joined to) quiet = cc
-cpus_same w s n c e quiet = plain_keeps place_part places_plain w s n c e refl
+cpus_same w s n c e quiet = C.after_left place_part leaves_place place_left w refl s n c e refl
+
+pub drop_places : (s : State) (c : ℕ) (e : Event) → SamePlaces s (drop_ageing s c e)
+drop_places s c e = C.drop_left place_part (place_left Dutied refl) s c e
 
 -- Open lists.
 
@@ -393,7 +350,7 @@ assigned_hold w s t d to assign.EBUSY holds = same_hold w s _ (C.finish_op_kept 
 
 drop_hold : (w : Work) (s : State) (c : ℕ) (e : Event) → OpenHold w s → OpenHold w (drop_ageing s c e)
 unfolding drop_ageing set_duty
-drop_hold w s c e holds = same_hold w s (drop_ageing s c e) (drop_keeps place_part places_plain s c e) refl holds
+drop_hold w s c e holds = same_hold w s (drop_ageing s c e) (drop_places s c e) refl holds
 
 joined_hold : (w : Work) (s : State) (c : CpuId) (to : SetId) → c.0 < w.cpus → (cpu_of s c.0).closing ≡ Some to → OpenHold w s → OpenHold w (joined s c to)
 unfolding joined
@@ -408,7 +365,7 @@ unfolding after effect
 open_kept w s n c (Assign t d to answer) ready cause holds = assigned_hold w (drop_ageing s c.0 (Assign t d to answer)) t.0 d to answer (drop_hold w s c.0 (Assign t d to answer) holds)
 open_kept w s n c (Joined to) ready cause holds =
     joined_hold w (drop_ageing s c.0 (Joined to)) c to (maker_there w s c.0 to ready cause.1)
-    (ap (λ (x : SetId × Option SetId). x.1) ((drop_keeps place_part places_plain s c.0 (Joined to)).each c.0) ∙ cause.1) (drop_hold w s c.0 (Joined to) holds)
+    (ap (λ (x : SetId × Option SetId). x.1) ((drop_places s c.0 (Joined to)).each c.0) ∙ cause.1) (drop_hold w s c.0 (Joined to) holds)
 open_kept w s n c e ready cause holds = same_hold w s (after w s n c e) (cpus_same w s n c e refl) (open_same w s n c e refl) holds
 
 -- The initial state.

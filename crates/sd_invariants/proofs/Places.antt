@@ -1,17 +1,18 @@
 -- A thread that is made runnable goes to a processor that is there, and the place of each thread is there.
-use Rattle.std.proofs.Common.{◌≡◌, ℕ, zero, suc, ◌<◌, ◌≤◌, ◌%◌, Bool, true, false, ◌&&◌, ◌||◌, [], ◌∷◌, length, get_or, Option, Some, None, is_none, sym, subst, inl, inr, arith}
+use Rattle.std.proofs.Common.{ℕ, zero, suc, ◌<◌, ◌≤◌, ◌%◌, Bool, true, false, ◌&&◌, ◌||◌, [], ◌∷◌, length, get_or, ◌≡◌, Option, Some, None, is_none, refl, sym, subst, inl, inr, arith}
 use Rattle.std.specs.Prelude.{⊤, if◌then◌else◌, nat_lt, nat_le, ◌==◌, IfSome, ℤ, pos}
 use Rattle.std.specs.List.{Contains}
 use Rattle.std.proofs.Math.Nat.{mod-lt}
 use Rattle.std.proofs.lemmas.List.{get_or_default}
 use Rattle.std.proofs.lemmas.Option.{same_Some}
+use Rattle.sd_types.specs.declared.numbers.ChanId.{ChanId}
 use Rattle.sd_types.specs.declared.numbers.CpuId.{CpuId}
 use Rattle.sd_types.specs.declared.numbers.ThreadId.{ThreadId}
 use Rattle.sd_types.specs.declared.bodies.ThreadBody.{ThreadBody}
 use Rattle.sd_types.specs.declared.events.BindAnswer.{BindAnswer}
 use Rattle.sd_types.specs.declared.events.BindAnswer.TheVariants as bind_answer
 use Rattle.sd_types.specs.declared.events.Event.{Event}
-use Rattle.sd_types.specs.declared.events.Event.TheVariants.{Dispatch, Steal, Preempt, Yield, Nap, Napend, Sleep, Wake, Rouse, Block, Will, Unblock, Grant, Age, Prio, CvWait, SemaWait, SemaVWake, Move, Bind, Away}
+use Rattle.sd_types.specs.declared.events.Event.TheVariants.{Napend, Wake, Rouse, Block, Will, Unblock, Grant, Age, Prio, SemaVWake, Move, Bind, Away}
 use Rattle.sd_types.specs.declared.events.PrioAnswer.{PrioAnswer}
 use Rattle.sd_types.specs.declared.events.PrioAnswer.TheVariants.{Changed, Refused}
 use Rattle.sd_types.specs.declared.events.Put.{Put}
@@ -40,7 +41,9 @@ use Rattle.sd_machine.specs.SetChanges.{bound_put, unbound_put, bind_put, bind_t
 use Rattle.sd_machine.specs.Events.{after}
 use Rattle.sd_frames.specs.Causes.{IsPut, IsRequeuedAt, WakesBest, RousesBest, IsAnswered, IsCause}
 use Rattle.sd_invariants.specs.Laws.{HoldsWhenReached, OpenHold}
-use Rattle.sd_frames.specs.Moves.{Step, put_step_if, woken_step, reordered_step, aged_step, prio_step, bind_step, step_of}
+use Rattle.sd_frames.specs.Moves.{Step, put_step_if, woken_step, reordered_step, aged_step, prio_step, bind_step, step_of, Stride, Comes, Falls, Goes, stride_of, step_by}
+use Rattle.sd_machine.specs.Deeds.{ToQueue, ToSleep, ToWait, ToNap, ToEnd}
+use Rattle.sd_frames.proofs.Leavers.{acts_of, sleeper_works, sleeper_names}
 use Rattle.sd_frames.specs.Moves.Step.{Stay, Go}
 use Rattle.sd_invariants.proofs.Movers.{bind_put_is, mover_there}
 use Rattle.sd_frames.proofs.PlaceTable.{Stepped, after_steps, step_needs}
@@ -48,7 +51,7 @@ use Rattle.sd_invariants.proofs.Whole.{reached_whole}
 use Rattle.sd_state.proofs.Declared.{decl_set_there, opening_each}
 use Rattle.sd_invariants.specs.There.{IsBoundThere, SetsAreOpen, ThreadsHaveCpus}
 use Rattle.sd_invariants.proofs.Induction.{held_reached}
-use Rattle.sd_invariants.proofs.Named.{acts_named, sleep_chan, sema_chan, wait_chan, bind_cpu, wants_lock, set_of_there}
+use Rattle.sd_invariants.proofs.Named.{acts_named, named_chan, bind_cpu, wants_lock, set_of_there}
 use Rattle.sd_invariants.proofs.Sets.{sets_are_open}
 use Rattle.sd_invariants.proofs.Bindings.{BoundsAreThere, bounds_are_there}
 
@@ -210,15 +213,34 @@ module _ (w : Work) (s : State) (is : IsInside w s) where
     bound_step_there u bind_answer.EPERM there = tt
     bound_step_there u bind_answer.EBUSY there = tt
 
+    -- a thread that comes to the processor, or leaves it and waits for no lock; or none at all
+    abbrev is_own : Option Stride → Bool
+    is_own None = true
+    is_own (Some (Comes t)) = true
+    is_own (Some (Falls t end)) = true
+    is_own (Some (Goes t (ToWait l))) = false
+    is_own (Some (Goes t whither)) = true
+    is_own _ = false
+
+    own_there : (stride : Option Stride) → is_own stride ≡ true → ((t : ℕ) (k : ChanId) → stride ≡ Some (Goes t (ToSleep k)) → k.0 < length w.chans) → StepThere w (step_by w s n c stride)
+    own_there None own sleeps = tt
+    own_there (Some (Comes t)) own sleeps = here
+    own_there (Some (Falls t end)) own sleeps = queue_there w t c (key_at n end) (thread_of s t).body here
+    own_there (Some (Goes t ToQueue)) own sleeps = queue_there w t c (back_key n) (thread_of s t).body here
+    own_there (Some (Goes t (ToSleep k))) own sleeps = sleeps t k refl
+    own_there (Some (Goes t ToNap)) own sleeps = here
+    own_there (Some (Goes t ToEnd)) own sleeps = tt
+    own_there _ own sleeps = cc
+
+    -- the channel is there on which a thread falls asleep
+    sleeper_there : (e : Event) (t : ℕ) (k : ChanId) → stride_of e ≡ Some (Goes t (ToSleep k)) → IsCause w s c.0 e → k.0 < length w.chans
+    sleeper_there e t k is cause =
+        let at = acts_of w s c.0 e cause t (sleeper_works e t k is) in
+        named_chan w at.by k (acts_named w s c.0 t at.by at.acts) (sleeper_names e t k at.by is at.names)
+
     step_there : (e : Event) → IsCause w s c.0 e → StepThere w (step_of w s n c e)
-    step_there (Dispatch t p) cause = here
-    step_there (Steal v t p) cause = here
-    step_there (Preempt t end) cause = queue_there w t.0 c (key_at n end) (thread_of s t.0).body here
     step_there (Away t d) cause = subst (λ o. IsBoundThere w o) cause.1 (is.bounds t.0)
-    step_there (Yield t) cause = queue_there w t.0 c (back_key n) (thread_of s t.0).body here
-    step_there (Nap t) cause = here
     step_there (Napend t at) cause = place_put_there w n t.0 at (put_inside t.0 _ at cause.1)
-    step_there (Sleep t k) cause = sleep_chan w k (acts_named w s c.0 t.0 (op.Sleep k) cause)
     step_there (Wake t k u) cause = woken_there w n u (wakes_inside k.0 u cause.1)
     step_there (Rouse k u) cause = woken_there w n u (rouses_inside k.0 cause.0 u cause.2)
     step_there (Block t l) cause = wants_lock w s c.0 t.0 l cause.0 cause.1
@@ -228,12 +250,10 @@ module _ (w : Work) (s : State) (is : IsInside w s) where
     step_there (Grant l u at) (inr cause) = place_put_there w n u.0 at (put_inside u.0 _ at cause.2)
     step_there (Age t p) cause = aged_there t.0
     step_there (Prio t u answer) cause = prio_there u answer (answered_inside c.0 t.0 u cause.0 answer cause.2)
-    step_there (CvWait t k l) cause = wait_chan w k l (acts_named w s c.0 t.0 (op.CvWait k l) cause)
-    step_there (SemaWait t k) cause = sema_chan w k (acts_named w s c.0 t.0 (op.SemaP k) cause.0)
     step_there (SemaVWake t k u at) cause = place_put_there w n u.0 at (put_inside u.0 _ at cause.1.put)
     step_there (Move t at) cause = place_put_there w n t.0 at (put_inside t.0 _ at cause.2)
     step_there (Bind t u d answer) cause = bound_step_there u.0 answer (bind_inside t.0 u.0 d answer (bind_cpu w u d (acts_named w s c.0 t.0 (op.Pbind u d) cause.0)) cause.1)
-    step_there e cause = tt
+    step_there e cause = own_there (stride_of e) refl (λ t k is. sleeper_there e t k is cause)
 
 stepped_there : (w : Work) (s r : State) (step : Step) → Stepped step s r → StepThere w step → PlacesAreThere w s → PlacesAreThere w r
 stepped_there w s r Stay same there places t = subst (λ p. IsPlaceThere w p) (sym (same t)) (places t)

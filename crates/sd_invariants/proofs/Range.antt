@@ -1,5 +1,5 @@
 -- An event of a run has what it needs of its state.
-use Rattle.std.proofs.Common.{◌≡◌, ℕ, ◌+◌, ◌<◌, ◌≤◌, ◌^◌, Bool, true, false, not, ◌||◌, List, [], ◌∷◌, length, Option, Some, None, refl, ap, ◌∙◌, subst, inl, inr, arith}
+use Rattle.std.proofs.Common.{◌≡◌, ℕ, ◌+◌, ◌<◌, ◌≤◌, ◌^◌, Bool, true, false, not, ◌||◌, List, [], ◌∷◌, length, Option, Some, None, refl, ap, ◌∙◌, sym, subst, inl, inr, arith}
 use Rattle.std.specs.Prelude.{filter, if◌then◌else◌, ◌==◌, IfSome, ℤ}
 use Rattle.std.specs.List.{Contains}
 use Rattle.std.proofs.lemmas.Bool.{or_right}
@@ -15,7 +15,7 @@ use Rattle.sd_types.specs.declared.events.BindAnswer.TheVariants as bind_answer
 use Rattle.sd_types.specs.declared.events.Duty.{Duty}
 use Rattle.sd_types.specs.declared.events.Duty.TheVariants as duty
 use Rattle.sd_types.specs.declared.events.Event.{Event}
-use Rattle.sd_types.specs.declared.events.Event.TheVariants.{Tick, Spin, Idle, Dispatch, Steal, Preempt, Yield, Done, Nap, Napend, Sleep, Wake, Wakeall, Rouse, Enter, Read, Write, Block, Will, End as WalkEnd, Exit, Unblock, Grant, Passed, Age, Prio, CvWait, SemaP, SemaWait, SemaVWake, SemaVCount, Assign, Move, Joined, Bind, Away}
+use Rattle.sd_types.specs.declared.events.Event.TheVariants.{Tick, Spin, Idle, Dispatch, Steal, Preempt, Done, Nap, Napend, Wake, Rouse, Enter, Read, Write, Block, Will, End as WalkEnd, Unblock, Grant, Passed, Age, Prio, SemaVWake, SemaVCount, Assign, Move, Joined, Bind, Away}
 use Rattle.sd_types.specs.declared.events.Hints.{Hints}
 use Rattle.sd_types.specs.declared.events.PrioAnswer.{PrioAnswer}
 use Rattle.sd_types.specs.declared.events.PrioAnswer.TheVariants.{Changed, Refused}
@@ -36,7 +36,11 @@ use Rattle.sd_machine.specs.Threads.{lock_of, open_of, count_of, runner}
 use Rattle.sd_machine.specs.Changes.{cpu_put}
 use Rattle.sd_machine.specs.Choosing.{neighbours}
 use Rattle.sd_machine.specs.Events.{next}
-use Rattle.sd_machine.specs.Needs.{IsThread, IsLock, IsChan, IsCpu, IsSet, IsPut, IsPutIf, IsWoken, RunsThere, Runs, CanAct, IsPrioPut, IsUnmoved, IsBindPut, CanUnbind, CanBeChanged, CanBeBound, Needs}
+use Rattle.sd_machine.specs.Needs.{IsThread, IsLock, IsChan, IsCpu, IsSet, IsPut, IsPutIf, IsWoken, RunsThere, Runs, CanAct, IsPrioPut, IsUnmoved, IsBindPut, CanUnbind, CanBeChanged, CanBeBound, Need, Met, Needs, asks}
+use Rattle.sd_machine.specs.Deeds.{deeds, first}
+use Rattle.sd_machine.proofs.NeedLemmas.{from_met, met_by}
+use Rattle.sd_frames.proofs.Leavers.{Named, acts_of, works}
+use Rattle.std.specs.List.{list_all}
 use Rattle.sd_machine.specs.Runs.{IsReached}
 use Rattle.sd_machine.proofs.PlaceLemmas.{is_waiter}
 use Rattle.sd_frames.specs.Causes.{Acts, WakesBest, RousesBest, IsRequeuedAt, IsAnswered, IsCause}
@@ -52,7 +56,7 @@ use Rattle.sd_invariants.proofs.OpenLemmas.{join_room}
 use Rattle.sd_invariants.proofs.Ready.{ready_cause, maker_inside}
 use Rattle.sd_invariants.proofs.Whole.{IsWhole, reached_whole, threads_most, is_fit, one_more, binds, woken_there, roused_there, receives, inherits, runs_on, acts_on, takes, naps}
 use Rattle.sd_invariants.specs.There.{IsSetThere, IsBoundThere}
-use Rattle.sd_invariants.proofs.Named.{acts_named, sleep_chan, sema_chan, enter_lock, read_lock, exit_lock, wait_chan, wait_lock, assign_cpu, assign_set, bind_cpu, wants_lock}
+use Rattle.sd_invariants.proofs.Named.{acts_named, sleep_chan, sema_chan, enter_lock, read_lock, named_chan, named_lock, assign_cpu, assign_set, bind_cpu, wants_lock}
 use Rattle.sd_invariants.proofs.Sets.{SetsAreThere, sets_are_there}
 use Rattle.sd_invariants.proofs.Places.{IsPutInside, IsInside, put_inside, requeued_inside, wakes_inside, rouses_inside, answered_inside, bind_inside, inside_reached}
 use Rattle.sd_invariants.proofs.Duties.{IsNamed, DutiesNamed, duties_named}
@@ -201,6 +205,24 @@ module _ (w : Work) (s : State) (whole : IsWhole w s) (is : IsInside w s) (sets 
     roused : (k : ChanId) (below : ℤ) (u : Option (ThreadId × Put)) → RousesBest w s k.0 below u → IsWoken s u
     roused k below u rouses = record { thread = roused_there w s whole k.0 below u rouses; put = woken_put u (rouses_inside w s is k.0 below u rouses) }
 
+    -- what the thread at work needs, and what its operation names
+    abbrev by_work : Need → Bool
+    by_work (Need.Acts u) = true
+    by_work (Need.Chan k) = true
+    by_work (Need.Lock l) = true
+    by_work _ = false
+
+    work_met : (t : ℕ) (o : Op) → Acts w s c.0 t (Some o) → (a : Need) → by_work a ≡ true → Named t o a → Met w s c a
+    work_met t o at (Need.Acts u) is why = acts u o (subst (λ v. Acts w s c.0 v (Some o)) (sym why) at)
+    work_met t o at (Need.Chan k) is why = chan k (named_chan w o k (acts_named w s c.0 t o at) why)
+    work_met t o at (Need.Lock l) is why = lock l (named_lock w o l (acts_named w s c.0 t o at) why)
+    work_met t o at _ is why = cc
+
+    work_needs : (e : Event) (t : ℕ) → first works (deeds e) ≡ Some t → list_all by_work (asks e) ≡ true → IsCause w s c.0 e → Needs w s c e
+    work_needs e t is all cause =
+        let at = acts_of w s c.0 e cause t is in
+        from_met w s c e (met_by w s c (Named t at.by) by_work (λ a kind why. work_met t at.by at.acts a kind why) (asks e) all at.names)
+
     needs : (counts : (k : ℕ) → count_of s k + 1 < 2 ^ 32) (e : Event) → c.0 < w.cpus → IsCause w s c.0 e → Needs w s c e
     needs counts (Tick t) here cause = (acts t (op.Run cause.0.0) cause.0.1, ticks_below w s c.0 cause.1)
     needs counts (Spin t l) here cause = (runs t cause.0.1.acts.runs, lock l (wants_lock w s c.0 t.0 l cause.0.0 cause.0.1), ticks_below w s c.0 cause.1)
@@ -209,13 +231,10 @@ module _ (w : Work) (s : State) (whole : IsWhole w s) (is : IsInside w s) (sets 
     needs counts (Steal v t p) here cause = ((unbound_found s v.0 t.0 cause.3).inside, cause.0.idle.nobody, cpu v (stolen_from c.0 v cause.2))
     needs counts (Preempt t end) here cause = runs t cause.0.runs
     needs counts (Away t d) here cause = (runs t cause.0.runs, cpu d (subst (λ o. IsBoundThere w o) cause.1 (is.bounds t.0)))
-    needs counts (Yield t) here cause = acts t op.Yield cause
     needs counts (Done t) here cause = runs t cause.runs
     needs counts (Nap t) here cause = (acts t (op.Nap cause.0) cause.1, naps w s whole c t cause.0 cause.1)
     needs counts (Napend t at) here cause = ((due_found s c.0 t.0 cause.0).inside, put at (put_inside w s is t.0 _ at cause.1))
-    needs counts (Sleep t k) here cause = (acts t (op.Sleep k) cause, chan k (sleep_chan w k (acts_named w s c.0 t.0 (op.Sleep k) cause)))
     needs counts (Wake t k u) here cause = (acts t (op.Wake k) cause.0, chan k (sleep_chan w k (acts_named w s c.0 t.0 (op.Wake k) cause.0)), woken k u cause.1)
-    needs counts (Wakeall t k) here cause = (acts t (op.WakeAll k) cause, chan k (sleep_chan w k (acts_named w s c.0 t.0 (op.WakeAll k) cause)))
     needs counts (Rouse k u) here cause = (chan k (subst (λ d. IsNamed w d) cause.1 (named c.0)), roused k cause.0 u cause.2)
     needs counts (Enter t l) here cause = (acts t (op.Enter l) cause.0, lock l (enter_lock w l (acts_named w s c.0 t.0 (op.Enter l) cause.0)), takes w s whole c t (op.Enter l) l Writer cause.0 refl)
     needs counts (Read t l) here cause =
@@ -225,7 +244,6 @@ module _ (w : Work) (s : State) (whole : IsWhole w s) (is : IsInside w s) (sets 
     needs counts (Will l o p at) here cause =
         (owner_thread s l o whole.ready.agreed cause.1, lock l (walk_lock c.0 l cause.0.0 cause.0.1 cause.0.2), inherits w s whole l o cause.1, put_if at (requeued_inside w s is o.0 p at cause.3), runs_there o)
     needs counts (WalkEnd l) here cause = lock l (walk_lock c.0 l cause.0.0 cause.0.1 cause.0.2)
-    needs counts (Exit t l) here cause = (acts t (op.Exit l) cause, lock l (exit_lock w l (acts_named w s c.0 t.0 (op.Exit l) cause)))
     needs counts (Unblock l u at) here cause =
         ((waiter_found s l.0 Writer u.0 cause.1).inside, passed_lock c.0 (duty.WakeMutex l) (record { lock = l.0; alone = true }) cause.0 refl, put at (put_inside w s is u.0 _ at cause.2))
     needs counts (Grant l u at) here (inl cause) =
@@ -235,10 +253,6 @@ module _ (w : Work) (s : State) (whole : IsWhole w s) (is : IsInside w s) (sets 
     needs counts (Passed l) here cause = passed_lock c.0 (duty.GrantReaders l) (record { lock = l.0; alone = false }) cause.0 refl
     needs counts (Age t p) here cause = let inside = (age_found s c.0 (cause.0).0 t.0 cause.2).inside in let many = threads_most w s whole in (inside, omega (arith, inside, many))
     needs counts (Prio t u answer) here cause = (acts t (op.Prio u cause.0) cause.1, changed t u answer cause)
-    needs counts (CvWait t k l) here cause =
-        (acts t (op.CvWait k l) cause, chan k (wait_chan w k l (acts_named w s c.0 t.0 (op.CvWait k l) cause)), lock l (wait_lock w k l (acts_named w s c.0 t.0 (op.CvWait k l) cause)))
-    needs counts (SemaP t k) here cause = (acts t (op.SemaP k) cause.0, chan k (sema_chan w k (acts_named w s c.0 t.0 (op.SemaP k) cause.0)))
-    needs counts (SemaWait t k) here cause = (acts t (op.SemaP k) cause.0, chan k (sema_chan w k (acts_named w s c.0 t.0 (op.SemaP k) cause.0)))
     needs counts (SemaVWake t k u at) here cause =
         (acts t (op.SemaV k) cause.0, chan k (sema_chan w k (acts_named w s c.0 t.0 (op.SemaV k) cause.0)), (sleeper_found s k.0 u.0 cause.1.best).inside, put at (put_inside w s is u.0 _ at cause.1.put))
     needs counts (SemaVCount t k m) here cause = (acts t (op.SemaV k) cause.0, chan k (sema_chan w k (acts_named w s c.0 t.0 (op.SemaV k) cause.0)), counts k.0)
@@ -251,6 +265,7 @@ module _ (w : Work) (s : State) (whole : IsWhole w s) (is : IsInside w s) (sets 
     needs counts (Move t at) here cause = ((queued_found s c.0 t.0 cause.1).inside, put at (put_inside w s is t.0 _ at cause.2))
     needs counts (Joined to) here cause = (set to (closing_to c.0 to cause.1), join_room w s c.0 to here cause.1 whole.opened)
     needs counts (Bind t u d answer) here cause = (acts t (op.Pbind u d) cause.0, bound t u d answer cause)
+    needs counts e here cause = work_needs e _ refl refl cause
 
 pub needs_reached : (w : Work) (n : ℕ) (s : State) (c : CpuId) (h : Option Hints) (e : Event) → IsReached w n s → next w s c h ≡ Some e → Needs w s c e
 needs_reached w n s c h e reached makes =

@@ -7,7 +7,8 @@ use Rattle.sd_types.specs.declared.numbers.ThreadId.{ThreadId}
 use Rattle.sd_types.specs.declared.events.BindAnswer.{BindAnswer}
 use Rattle.sd_types.specs.declared.events.BindAnswer.TheVariants as bind_answer
 use Rattle.sd_types.specs.declared.events.Event.{Event}
-use Rattle.sd_types.specs.declared.events.Event.TheVariants.{Dispatch, Steal, Preempt, Yield, Done, Nap, Napend, Sleep, Wake, Rouse, Block, Will, Unblock, Grant, Age, Prio, CvWait, SemaWait, SemaVWake, Move, Bind, Away}
+use Rattle.sd_types.specs.declared.events.Event.TheVariants.{Dispatch, Steal}
+use Rattle.sd_machine.specs.Deeds.{Whither, ToQueue, ToSleep, ToWait, ToNap, ToEnd, place_to}
 use Rattle.sd_types.specs.declared.events.PrioAnswer.{PrioAnswer}
 use Rattle.sd_types.specs.declared.events.PrioAnswer.TheVariants.{Changed, Refused}
 use Rattle.sd_types.specs.declared.events.Put.{Put}
@@ -22,7 +23,7 @@ use Rattle.sd_machine.specs.Changes.{back_key}
 use Rattle.sd_machine.specs.Threads.{runner}
 use Rattle.sd_machine.specs.Bodies.{aged_class}
 use Rattle.sd_frames.specs.Causes.{IsCause}
-use Rattle.sd_frames.specs.Moves.{Step, put_step_if, woken_step, reordered_step, aged_step, prio_step, bind_step, step_of}
+use Rattle.sd_frames.specs.Moves.{Step, put_step_if, woken_step, reordered_step, aged_step, prio_step, bind_step, step_of, Stride, Comes, Goes, Falls, Leaves, Wakes, WakesAny, Reorders, Rises, Changes, Binds, stride_of, step_by}
 use Rattle.sd_frames.specs.Moves.Step.{Stay, Go}
 use Rattle.sd_frames.proofs.PlaceTable.{Stepped}
 use Rattle.sd_machine.proofs.Moves.{put_cases}
@@ -102,30 +103,34 @@ bind_starts w s n u bind_answer.EINVAL = tt
 bind_starts w s n u bind_answer.EPERM = tt
 bind_starts w s n u bind_answer.EBUSY = tt
 
+-- no thread runs where one comes
+comes_idle : (w : Work) (s : State) (c : ℕ) (e : Event) → IsCause w s c e → (t : ℕ) → stride_of e ≡ Some (Comes t) → runner s c ≡ None
+comes_idle w s c (Dispatch u p) cause t is = cause.0.idle.nobody
+comes_idle w s c (Steal v u p) cause t is = cause.0.idle.nobody
+comes_idle w s c e cause t is = cc
+
+goes_starts : (w : Work) (s : State) (n : ℕ) (c : CpuId) (t : ℕ) (whither : Whither) → StartsWell s (Go t (place_to w n c s t whither))
+goes_starts w s n c t ToQueue = queue_starts w s t c (back_key n) (thread_of s t).body
+goes_starts w s n c t (ToSleep k) = λ x e. cc
+goes_starts w s n c t (ToWait l) = λ x e. cc
+goes_starts w s n c t ToNap = λ x e. cc
+goes_starts w s n c t ToEnd = λ x e. cc
+
+stride_starts : (w : Work) (s : State) (n : ℕ) (c : CpuId) (stride : Option Stride) → ((t : ℕ) → stride ≡ Some (Comes t) → runner s c.0 ≡ None) → StartsWell s (step_by w s n c stride)
+stride_starts w s n c None idle = tt
+stride_starts w s n c (Some (Comes t)) idle = dispatch_starts s c (idle t refl)
+stride_starts w s n c (Some (Goes t whither)) idle = goes_starts w s n c t whither
+stride_starts w s n c (Some (Falls t end)) idle = queue_starts w s t c (key_at n end) (thread_of s t).body
+stride_starts w s n c (Some (Leaves t d)) idle = λ x e. cc
+stride_starts w s n c (Some (Wakes t at)) idle = put_starts w s n t at
+stride_starts w s n c (Some (WakesAny u)) idle = woken_starts w s n u
+stride_starts w s n c (Some (Reorders o at)) idle = reordered_starts w s n o.0 at (thread_of s o.0).place
+stride_starts w s n c (Some (Rises t)) idle = aged_starts w s n c t
+stride_starts w s n c (Some (Changes t u answer)) idle = prio_starts w s n u answer
+stride_starts w s n c (Some (Binds u answer)) idle = bind_starts w s n u answer
+
 starts_well : (w : Work) (s : State) (n : ℕ) (c : CpuId) (e : Event) → IsCause w s c.0 e → StartsWell s (step_of w s n c e)
-starts_well w s n c (Dispatch t p) cause = dispatch_starts s c cause.0.idle.nobody
-starts_well w s n c (Steal v t p) cause = dispatch_starts s c cause.0.idle.nobody
-starts_well w s n c (Preempt t end) cause = queue_starts w s t.0 c (key_at n end) (thread_of s t.0).body
-starts_well w s n c (Away t d) cause = λ x e. cc
-starts_well w s n c (Yield t) cause = queue_starts w s t.0 c (back_key n) (thread_of s t.0).body
-starts_well w s n c (Done t) cause = λ x e. cc
-starts_well w s n c (Nap t) cause = λ x e. cc
-starts_well w s n c (Napend t at) cause = put_starts w s n t.0 at
-starts_well w s n c (Sleep t k) cause = λ x e. cc
-starts_well w s n c (Wake t k u) cause = woken_starts w s n u
-starts_well w s n c (Rouse k u) cause = woken_starts w s n u
-starts_well w s n c (Block t l) cause = λ x e. cc
-starts_well w s n c (Will l o p at) cause = reordered_starts w s n o.0 at (thread_of s o.0).place
-starts_well w s n c (Unblock l u at) cause = put_starts w s n u.0 at
-starts_well w s n c (Grant l u at) cause = put_starts w s n u.0 at
-starts_well w s n c (Age t p) cause = aged_starts w s n c t.0
-starts_well w s n c (Prio t u answer) cause = prio_starts w s n u answer
-starts_well w s n c (CvWait t k l) cause = λ x e. cc
-starts_well w s n c (SemaWait t k) cause = λ x e. cc
-starts_well w s n c (SemaVWake t k u at) cause = put_starts w s n u.0 at
-starts_well w s n c (Move t at) cause = put_starts w s n t.0 at
-starts_well w s n c (Bind t u d answer) cause = bind_starts w s n u.0 answer
-starts_well w s n c e cause = tt
+starts_well w s n c e cause = stride_starts w s n c (stride_of e) (comes_idle w s c.0 e cause)
 
 one_after : (step : Step) (s r : State) → length r.threads ≡ length s.threads → Stepped step s r → StartsWell s step → OneRuns s → OneRuns r
 one_after Stay s r many a well one = λ t u c t_in u_in t_on u_on.

@@ -1,5 +1,5 @@
 -- A thread's place in its script through each event.
-use Rattle.std.proofs.Common.{◌≡◌, ◌≢◌, ℕ, zero, suc, ◌+◌, ◌<◌, ◌≤◌, true, false, List, [], ◌∷◌, ◌++◌, length, take, Option, Some, None, refl, ◌∙◌, sym, ap, subst, arith, inl, inr}
+use Rattle.std.proofs.Common.{◌≡◌, ◌≢◌, ℕ, zero, suc, ◌+◌, ◌<◌, ◌≤◌, Bool, true, false, List, [], ◌∷◌, ◌++◌, length, take, Option, Some, None, refl, ◌∙◌, sym, ap, subst, arith, inl, inr}
 use Rattle.std.specs.Prelude.{⊤, ℤ, fold, slice_get}
 use Rattle.std.proofs.lemmas.Option.{slice_get_within, same_Some}
 use Rattle.sd_types.specs.declared.numbers.Side.{Side}
@@ -8,11 +8,19 @@ use Rattle.sd_types.specs.Priorities.{eff, eff_as}
 use Rattle.sd_types.specs.Scripts.{without_lock, held_after, held_by}
 use Rattle.sd_frames.specs.Causes.{wants, Acts, IsCause}
 use Rattle.sd_invariants.specs.Scripted.{IsScripted, Scripted}
-use Rattle.sd_frames.proofs.HoldTable.{held_part, held_moves, held_ops, Goes, same_then, put_to, owned_held, read_held, exited_held, cv_waited_held, granted_to_writer_held, granted_to_reader_held, willed_held, pbound_held}
+use Rattle.sd_frames.proofs.HoldTable.{held_part, leaves_held, held_left, Goes, same_then, put_to, granted_to_writer_held, granted_to_reader_held}
 use Rattle.sd_frames.proofs.OpTable.{ender, IsEnderThere, ender_there, Finished, OpsBy, OpsGo}
 use Rattle.sd_frames.proofs.PlaceTable.{Stepped}
 use Rattle.sd_frames.proofs.Found.{runner_found, waiter_found}
-use Rattle.sd_frames.specs.Moves.{Step, put_step_if, woken_step, reordered_step, aged_step, prio_step, bind_step, step_of}
+use Rattle.sd_frames.specs.Moves.{Step, put_step_if, woken_step, reordered_step, aged_step, prio_step, bind_step, step_of, Stride, Comes, Goes as Off, Falls, Leaves, Wakes, WakesAny, Reorders, Rises, Changes, Binds, stride_of, step_by}
+use Rattle.sd_frames.proofs.Leavers.{Holding, Takes, Gives, holds, held_with, works, acts_of}
+use Rattle.sd_machine.specs.Deeds.{Deed, HoldsLock, LetsGo, GrantsLock, Whither, ToQueue, ToSleep, ToWait, ToNap, ToEnd, place_to, did, all_did, deeds, first, at_most_one}
+use Rattle.sd_machine.proofs.DeedLemmas.{effect_did, none_first, one_first}
+use Rattle.sd_machine.proofs.ShapeLemmas.{deed_shape}
+use Rattle.sd_frames.proofs.ThreadParts.{deed_same}
+use Rattle.sd_frames.proofs.Words.{all_same}
+use Rattle.sd_frames.proofs.HoldTable.{there, put_then, hold_put, let_go_held}
+use Rattle.sd_machine.specs.Changes.{hold, let_go}
 use Rattle.sd_frames.specs.Moves.Step.{Stay, Go}
 use Rattle.sd_machine.specs.Accounts.{is_block}
 use Rattle.sd_machine.proofs.Moves.{put_cases}
@@ -27,7 +35,7 @@ use Rattle.sd_types.specs.declared.events.BindAnswer.TheVariants as bind_answer
 use Rattle.sd_types.specs.declared.events.Duty.{Duty}
 use Rattle.sd_types.specs.declared.events.Duty.TheVariants as duty
 use Rattle.sd_types.specs.declared.events.Event.{Event}
-use Rattle.sd_types.specs.declared.events.Event.TheVariants.{Tick, Spin, Idle, Dispatch, Steal, Preempt, Yield, Done, Nap, Napend, Sleep, Wake, Wakeall, Rouse, Enter, Read, Write, Block, Will, End as WalkEnd, Exit, Unblock, Grant, Passed, Age, Prio, CvWait, SemaP, SemaWait, SemaVWake, SemaVCount, Assign, Move, Joined, Bind, Away}
+use Rattle.sd_types.specs.declared.events.Event.TheVariants.{Tick, Enter, Read, Write, Block, Exit, Grant, CvWait}
 use Rattle.sd_types.specs.declared.events.PrioAnswer.{PrioAnswer}
 use Rattle.sd_types.specs.declared.events.PrioAnswer.TheVariants.{Changed, Refused}
 use Rattle.sd_types.specs.declared.events.Put.{Put}
@@ -48,70 +56,73 @@ use Rattle.sd_machine.specs.Dispatching.{done}
 use Rattle.sd_machine.specs.Locking.{side_of, granted}
 use Rattle.sd_machine.specs.Events.{drop_ageing, effect, after}
 use Rattle.sd_machine.proofs.PlaceLemmas.{is_waiter, put_no_waiter}
-use Rattle.sd_frames.proofs.Words.{then_same, set_duty_same, idled_same, walk_ended_same, joined_same, passed_same, spun_same, dispatched_same, stolen_same, preempted_same, sent_away_same, done_same, woken_same, roused_same, blocked_same, unblocked_same, aged_same, moved_same, ticked_same, yielded_same, napped_same, fallen_asleep_same, woke_same, woke_all_same, reprioritised_same, sema_taken_same, sema_counted_same, sema_handed_same, assigned_same, Same}
+use Rattle.sd_frames.proofs.Words.{then_same, set_duty_same, Same}
 
 -- What becomes of the locks that are held.
 
+abbrev pub HeldOf : State → State → Option Holding → Type 0
+HeldOf s r None = Same held_part s r
+HeldOf s r (Some (Takes t l)) = Goes held_part s r t ((thread_of s t).body.held.items ++ l ∷ [])
+HeldOf s r (Some (Gives t l)) = Goes held_part s r t (without_lock l (thread_of s t).body.held.items)
+
 abbrev pub HeldGo : State → State → Event → Type 0
-HeldGo s r (Enter t l) = Goes held_part s r t.0 ((thread_of s t.0).body.held.items ++ l ∷ [])
-HeldGo s r (Read t l) = Goes held_part s r t.0 ((thread_of s t.0).body.held.items ++ l ∷ [])
-HeldGo s r (Write t l) = Goes held_part s r t.0 ((thread_of s t.0).body.held.items ++ l ∷ [])
-HeldGo s r (Grant l u at) = Goes held_part s r u.0 ((thread_of s u.0).body.held.items ++ l ∷ [])
-HeldGo s r (Exit t l) = Goes held_part s r t.0 (without_lock l (thread_of s t.0).body.held.items)
-HeldGo s r (CvWait t k l) = Goes held_part s r t.0 (without_lock l (thread_of s t.0).body.held.items)
-HeldGo s r e = Same held_part s r
+HeldGo s r e = HeldOf s r (first holds (deeds e))
 
 granted_held : (w : Work) (s : State) (n : ℕ) (c : CpuId) (l : LockId) (u : ℕ) (at : Put) (d : Duty) → u < length s.threads → Goes held_part s (granted w s n c l u at d) u ((thread_of s u).body.held.items ++ l ∷ [])
 granted_held w s n c l u at (duty.GrantWriter m) here = granted_to_writer_held w s n c l u at here
-granted_held w s n c l u at _ here = granted_to_reader_held w s n l u at here
+granted_held w s n c l u at _ here = granted_to_reader_held w s n c l u at here
+
+abbrev whose_hold : Holding → ℕ
+whose_hold (Takes t l) = t
+whose_hold (Gives t l) = t
+
+held_before : (s r q : State) (x : Holding) → Same held_part s r → HeldOf r q (Some x) → HeldOf s q (Some x)
+held_before s r q (Takes t l) a b = put_to held_part s q t _ _ (same_then held_part s r q t _ a b) (ap (λ (xs : List LockId). xs ++ l ∷ []) (a.each t))
+held_before s r q (Gives t l) a b = put_to held_part s q t _ _ (same_then held_part s r q t _ a b) (ap (λ (xs : List LockId). without_lock l xs) (a.each t))
+
+held_behind : (s r q : State) (x : Holding) → HeldOf s r (Some x) → Same held_part r q → HeldOf s q (Some x)
+held_behind s r q (Takes t l) a b = put_then held_part s r q t _ a b
+held_behind s r q (Gives t l) a b = put_then held_part s r q t _ a b
+
+module _ (w : Work) (n : ℕ) (c : CpuId) where
+  deed_held : (s : State) (d : Deed) → holds d ≡ None → Same held_part s (did w n c s d)
+  deed_held s (HoldsLock t l) none = cc
+  deed_held s (LetsGo t l) none = cc
+  deed_held s (GrantsLock l u at) none = cc
+  deed_held s d none = deed_same held_part leaves_held held_left w n c s d refl
+
+  does_hold : (s : State) (d : Deed) (x : Holding) → holds d ≡ Some x → whose_hold x < length s.threads → HeldOf s (did w n c s d) (Some x)
+  does_hold s (HoldsLock t l) x is here = subst (λ y. whose_hold y < length s.threads → HeldOf s (hold s t l) (Some y)) (same_Some (Takes t l) x is) (hold_put s t l) here
+  does_hold s (LetsGo t l) x is here = subst (λ y. whose_hold y < length s.threads → HeldOf s (let_go s t l) (Some y)) (same_Some (Gives t l) x is) (let_go_held s t l) here
+  does_hold s (GrantsLock l u at) x is here =
+      subst (λ y. whose_hold y < length s.threads → HeldOf s (granted w s n c l u at (cpu_of s c.0).duty) (Some y)) (same_Some (Takes u l) x is) (granted_held w s n c l u at (cpu_of s c.0).duty) here
+  does_hold s d x is here = cc
+
+  holder_there : (s : State) (d : Deed) (x : Holding) → whose_hold x < length s.threads → whose_hold x < length (did w n c s d).threads
+  holder_there s d x here = there s (did w n c s d) (whose_hold x) (deed_shape w n c s d) here
+
+-- no event takes or gives two locks; and who takes one or gives one up is whose operation is over
+holds_one : (e : Event) → at_most_one holds (deeds e) ≡ true
+holds_one (Tick t) = refl
+holds_one _ = refl
+
+holder_ends : (e : Event) (x : Holding) → first holds (deeds e) ≡ Some x → ender e ≡ Some (whose_hold x)
+holder_ends (Tick t) x is = cc
+holder_ends _ x is = cc
 
 effect_held : (w : Work) (s : State) (n : ℕ) (c : CpuId) (e : Event) → IsEnderThere s (ender e) → HeldGo s (effect w s n c e) e
-unfolding effect
-effect_held w s n c (Tick t) here = ticked_same held_part held_moves held_ops w s c.0 t.0
-effect_held w s n c (Spin t l) here = spun_same held_part held_moves w s c.0 t.0
-effect_held w s n c Idle here = idled_same held_part w s c.0
-effect_held w s n c (Dispatch t p) here = dispatched_same held_part held_moves s c t.0
-effect_held w s n c (Steal v t p) here = stolen_same held_part held_moves s c t.0
-effect_held w s n c (Preempt t end) here = preempted_same held_part held_moves w s n c t.0 end
-effect_held w s n c (Away t d) here = sent_away_same held_part held_moves s n c t.0 d
-effect_held w s n c (Yield t) here = yielded_same held_part held_moves held_ops w s n c t.0
-effect_held w s n c (Done t) here = done_same held_part held_moves s c t.0
-effect_held w s n c (Nap t) here = napped_same held_part held_moves held_ops w s c t.0
-effect_held w s n c (Napend t at) here = woken_same held_part held_moves w s n t.0 at
-effect_held w s n c (Sleep t k) here = fallen_asleep_same held_part held_moves held_ops w s n c t.0 k
-effect_held w s n c (Wake t k u) here = woke_same held_part held_moves held_ops w s n t.0 u
-effect_held w s n c (Wakeall t k) here = woke_all_same held_part held_moves held_ops w s n c t.0 k
-effect_held w s n c (Rouse k u) here = roused_same held_part held_moves w s n c k u (cpu_of s c.0).duty
-effect_held w s n c (Enter t l) here = owned_held w s t.0 l here
-effect_held w s n c (Read t l) here = read_held w s t.0 l here
-effect_held w s n c (Write t l) here = owned_held w s t.0 l here
-effect_held w s n c (Block t l) here = blocked_same held_part held_moves w s n c t.0 l
-effect_held w s n c (Will l o p at) here = willed_held w s n c l o at
-effect_held w s n c (WalkEnd l) here = walk_ended_same held_part s c
-effect_held w s n c (Exit t l) here = exited_held w s c t.0 l here
-effect_held w s n c (Unblock l u at) here = unblocked_same held_part held_moves w s n c l u.0 at
-effect_held w s n c (Grant l u at) here = granted_held w s n c l u.0 at (cpu_of s c.0).duty here
-effect_held w s n c (Passed l) here = passed_same held_part s c l
-effect_held w s n c (Age t p) here = aged_same held_part held_moves w s n c t.0
-effect_held w s n c (Prio t u answer) here = reprioritised_same held_part held_moves held_ops w s n c t.0 u answer
-effect_held w s n c (CvWait t k l) here = cv_waited_held w s n c t.0 k l here
-effect_held w s n c (SemaP t k) here = sema_taken_same held_part held_moves held_ops w s t.0 k
-effect_held w s n c (SemaWait t k) here = fallen_asleep_same held_part held_moves held_ops w s n c t.0 k
-effect_held w s n c (SemaVWake t k u at) here = sema_handed_same held_part held_moves held_ops w s n t.0 u.0 at
-effect_held w s n c (SemaVCount t k m) here = sema_counted_same held_part held_moves held_ops w s t.0 k
-effect_held w s n c (Assign t d to answer) here = assigned_same held_part held_moves held_ops w s t.0 d to answer
-effect_held w s n c (Move t at) here = moved_same held_part held_moves w s n t.0 at
-effect_held w s n c (Joined to) here = joined_same held_part s c to
-effect_held w s n c (Bind t u d answer) here = pbound_held w s n t.0 u.0 d answer
+effect_held w s n c e here = subst (λ r. HeldGo s r e) (sym (effect_did w s n c e)) (by (first holds (deeds e)) refl)
+  where
+    by : (o : Option Holding) → first holds (deeds e) ≡ o → HeldOf s (all_did w n c s (deeds e)) o
+    by None none =
+        none_first w n c holds {T = λ r q x. HeldOf r q (Some x)} (all_same held_part) (then_same held_part) held_before held_behind {Fit = λ r x. whose_hold x < length r.threads} (holder_there w n c) (deed_held w n c) (does_hold w n c) s (deeds e) (holds_one e) none
+    by (Some x) some =
+        one_first w n c holds {T = λ r q x. HeldOf r q (Some x)} (all_same held_part) (then_same held_part) held_before held_behind {Fit = λ r x. whose_hold x < length r.threads} (holder_there w n c) (deed_held w n c) (does_hold w n c) s (deeds e) x (holds_one e) some
+        (subst (λ o. IsEnderThere s o) (holder_ends e x some) here)
 
-held_later : (s r q : State) (e : Event) → Same held_part s r → HeldGo r q e → HeldGo s q e
-held_later s r q (Enter t l) a b = put_to held_part s q t.0 _ _ (same_then held_part s r q t.0 _ a b) (ap (λ (xs : List LockId). xs ++ l ∷ []) (a.each t.0))
-held_later s r q (Read t l) a b = put_to held_part s q t.0 _ _ (same_then held_part s r q t.0 _ a b) (ap (λ (xs : List LockId). xs ++ l ∷ []) (a.each t.0))
-held_later s r q (Write t l) a b = put_to held_part s q t.0 _ _ (same_then held_part s r q t.0 _ a b) (ap (λ (xs : List LockId). xs ++ l ∷ []) (a.each t.0))
-held_later s r q (Exit t l) a b = put_to held_part s q t.0 _ _ (same_then held_part s r q t.0 _ a b) (ap (λ (xs : List LockId). without_lock l xs) (a.each t.0))
-held_later s r q (Grant l u at) a b = put_to held_part s q u.0 _ _ (same_then held_part s r q u.0 _ a b) (ap (λ (xs : List LockId). xs ++ l ∷ []) (a.each u.0))
-held_later s r q (CvWait t k l) a b = put_to held_part s q t.0 _ _ (same_then held_part s r q t.0 _ a b) (ap (λ (xs : List LockId). without_lock l xs) (a.each t.0))
-held_later s r q e a b = then_same held_part s r q a b
+held_of : (s r q : State) (o : Option Holding) → Same held_part s r → HeldOf r q o → HeldOf s q o
+held_of s r q None a b = then_same held_part s r q a b
+held_of s r q (Some x) a b = held_before s r q x a b
 
 drop_held : (s : State) (c : ℕ) (e : Event) → Same held_part s (drop_ageing s c e)
 unfolding drop_ageing
@@ -119,7 +130,7 @@ drop_held s c e = set_duty_same held_part s c _
 
 pub after_held : (w : Work) (s : State) (n : ℕ) (c : CpuId) (e : Event) → IsEnderThere s (ender e) → HeldGo s (after w s n c e) e
 unfolding after
-after_held w s n c e here = held_later s (drop_ageing s c.0 e) _ e (drop_held s c.0 e) (effect_held w _ n c e (ender_there s c.0 e (ender e) here))
+after_held w s n c e here = held_of s (drop_ageing s c.0 e) _ (first holds (deeds e)) (drop_held s c.0 e) (effect_held w _ n c e (ender_there s c.0 e (ender e) here))
 
 -- One operation more.
 
@@ -217,58 +228,58 @@ bind_away w n u bind_answer.EINVAL = tt
 bind_away w n u bind_answer.EPERM = tt
 bind_away w n u bind_answer.EBUSY = tt
 
+goes_away : (w : Work) (s : State) (n : ℕ) (c : CpuId) (t : ℕ) (whither : Whither) → ((l : LockId) → whither ≢ ToWait l) → StepAway (Go t (place_to w n c s t whither))
+goes_away w s n c t ToQueue other = queue_no_waiter w t c _ (thread_of s t).body
+goes_away w s n c t (ToSleep k) other = refl
+goes_away w s n c t (ToWait l) other = absurd (other l refl)
+goes_away w s n c t ToNap other = refl
+goes_away w s n c t ToEnd other = refl
+
+stride_away : (w : Work) (s : State) (n : ℕ) (c : CpuId) (stride : Option Stride) → ((t : ℕ) (whither : Whither) → stride ≡ Some (Off t whither) → (l : LockId) → whither ≢ ToWait l) → StepAway (step_by w s n c stride)
+stride_away w s n c None other = tt
+stride_away w s n c (Some (Comes t)) other = refl
+stride_away w s n c (Some (Off t whither)) other = goes_away w s n c t whither (other t whither refl)
+stride_away w s n c (Some (Falls t end)) other = queue_no_waiter w t c _ (thread_of s t).body
+stride_away w s n c (Some (Leaves t d)) other = refl
+stride_away w s n c (Some (Wakes t at)) other = put_no_waiter w n t at
+stride_away w s n c (Some (WakesAny u)) other = woken_away w n u
+stride_away w s n c (Some (Reorders o at)) other = reordered_away w n o.0 at (thread_of s o.0).place
+stride_away w s n c (Some (Rises t)) other = aged_away w s n c t
+stride_away w s n c (Some (Changes t u answer)) other = prio_away w s n u answer
+stride_away w s n c (Some (Binds u answer)) other = bind_away w n u answer
+
+none_waits : (e : Event) → is_block e ≡ false → (t : ℕ) (whither : Whither) → stride_of e ≡ Some (Off t whither) → (l : LockId) → whither ≢ ToWait l
+none_waits (Block u m) quiet t whither is l same = cc
+none_waits e quiet t whither is l same = cc
+
 pub step_away : (w : Work) (s : State) (n : ℕ) (c : CpuId) (e : Event) → is_block e ≡ false → StepAway (step_of w s n c e)
-step_away w s n c (Dispatch t p) quiet = refl
-step_away w s n c (Steal v t p) quiet = refl
-step_away w s n c (Preempt t end) quiet = queue_no_waiter w t.0 c _ (thread_of s t.0).body
-step_away w s n c (Away t d) quiet = refl
-step_away w s n c (Yield t) quiet = queue_no_waiter w t.0 c _ (thread_of s t.0).body
-step_away w s n c (Done t) quiet = refl
-step_away w s n c (Nap t) quiet = refl
-step_away w s n c (Napend t at) quiet = put_no_waiter w n t.0 at
-step_away w s n c (Sleep t k) quiet = refl
-step_away w s n c (Wake t k u) quiet = woken_away w n u
-step_away w s n c (Rouse k u) quiet = woken_away w n u
-step_away w s n c (Block t l) quiet = cc
-step_away w s n c (Will l o p at) quiet = reordered_away w n o.0 at (thread_of s o.0).place
-step_away w s n c (Unblock l u at) quiet = put_no_waiter w n u.0 at
-step_away w s n c (Grant l u at) quiet = put_no_waiter w n u.0 at
-step_away w s n c (Age t p) quiet = aged_away w s n c t.0
-step_away w s n c (Prio t u answer) quiet = prio_away w s n u answer
-step_away w s n c (CvWait t k l) quiet = refl
-step_away w s n c (SemaWait t k) quiet = refl
-step_away w s n c (SemaVWake t k u at) quiet = put_no_waiter w n u.0 at
-step_away w s n c (Move t at) quiet = put_no_waiter w n t.0 at
-step_away w s n c (Bind t u d answer) quiet = bind_away w n u.0 answer
-step_away w s n c e quiet = tt
+step_away w s n c e quiet = stride_away w s n c (stride_of e) (none_waits e quiet)
 
 -- What the cause says of the thread whose operation is over.
 
 pub runs_there : (s : State) (c t : ℕ) → runner s c ≡ Some t → t < length s.threads
 runs_there s c t e = (runner_found s c t e).inside
 
+-- who ends its operation is at work on it, but for one that is granted a lock
+abbrev is_grant : Event → Bool
+is_grant (Grant l u at) = true
+is_grant _ = false
+
+worker_is : (e : Event) (t : ℕ) → is_grant e ≡ false → ender e ≡ Some t → first works (deeds e) ≡ Some t
+worker_is (Grant l u at) t other is = cc
+worker_is e t other is = is
+
+there_if : (s : State) (o : Option ℕ) → ((t : ℕ) → o ≡ Some t → t < length s.threads) → IsEnderThere s o
+there_if s None found = tt
+there_if s (Some t) found = found t refl
+
+ender_else : (w : Work) (s : State) (c : ℕ) (e : Event) → is_grant e ≡ false → IsCause w s c e → IsEnderThere s (ender e)
+ender_else w s c e other cause = there_if s (ender e) (λ t is. runs_there s c t (acts_of w s c e cause t (worker_is e t other is)).acts.runs)
+
 pub ender_in : (w : Work) (s : State) (c : ℕ) (e : Event) → IsCause w s c e → IsEnderThere s (ender e)
-ender_in w s c (Tick t) cause = runs_there s c t.0 cause.0.1.runs
-ender_in w s c (Yield t) cause = runs_there s c t.0 cause.runs
-ender_in w s c (Nap t) cause = runs_there s c t.0 cause.1.runs
-ender_in w s c (Sleep t k) cause = runs_there s c t.0 cause.runs
-ender_in w s c (Wake t k u) cause = runs_there s c t.0 cause.0.runs
-ender_in w s c (Wakeall t k) cause = runs_there s c t.0 cause.runs
-ender_in w s c (Enter t l) cause = runs_there s c t.0 cause.0.runs
-ender_in w s c (Read t l) cause = runs_there s c t.0 cause.0.runs
-ender_in w s c (Write t l) cause = runs_there s c t.0 cause.0.runs
-ender_in w s c (Exit t l) cause = runs_there s c t.0 cause.runs
 ender_in w s c (Grant l u at) (inl cause) = (waiter_found s l.0 Writer u.0 cause.1).inside
 ender_in w s c (Grant l u at) (inr cause) = (waiter_found s l.0 Reader u.0 cause.1).inside
-ender_in w s c (Prio t u answer) cause = runs_there s c t.0 cause.1.runs
-ender_in w s c (CvWait t k l) cause = runs_there s c t.0 cause.runs
-ender_in w s c (SemaP t k) cause = runs_there s c t.0 cause.0.runs
-ender_in w s c (SemaWait t k) cause = runs_there s c t.0 cause.0.runs
-ender_in w s c (SemaVWake t k u at) cause = runs_there s c t.0 cause.0.runs
-ender_in w s c (SemaVCount t k m) cause = runs_there s c t.0 cause.0.runs
-ender_in w s c (Assign t d to answer) cause = runs_there s c t.0 cause.0.runs
-ender_in w s c (Bind t u d answer) cause = runs_there s c t.0 cause.0.runs
-ender_in w s c e cause = tt
+ender_in w s c e cause = ender_else w s c e refl cause
 
 -- the operation that is over, and what it makes of the locks that are held
 pub record IsOver (w : Work) (s r : State) (t : ℕ) : Type 0 where
@@ -317,28 +328,26 @@ abbrev pub OverIf : Work → State → State → Option ℕ → Type 0
 OverIf w s r None = ⊤
 OverIf w s r (Some t) = IsOver w s r t
 
+held_at : (s r : State) (t : ℕ) (o : Option Holding) → ((x : Holding) → o ≡ Some x → whose_hold x ≡ t) → HeldOf s r o → (thread_of r t).body.held.items ≡ held_with o (thread_of s t).body.held.items
+held_at s r t None same held = held.each t
+held_at s r t (Some (Takes u l)) same held = subst (λ v. (thread_of r v).body.held.items ≡ (thread_of s v).body.held.items ++ l ∷ []) (same (Takes u l) refl) held.put.at
+held_at s r t (Some (Gives u l)) same held = subst (λ v. (thread_of r v).body.held.items ≡ without_lock l (thread_of s v).body.held.items) (same (Gives u l) refl) held.put.at
+
+over_else : (w : Work) (s r : State) (n : ℕ) (c : CpuId) (e : Event) → is_grant e ≡ false → is_block e ≡ false → IsCause w s c.0 e → Stepped (step_of w s n c e) s r → HeldGo s r e → OverIf w s r (ender e)
+over_else w s r n c e other quiet cause a held = by (ender e) refl
+  where
+    by : (o : Option ℕ) → ender e ≡ o → OverIf w s r o
+    by None none = tt
+    by (Some t) is =
+        let work = acts_of w s c.0 e cause t (worker_is e t other is) in
+        over_running w s r c.0 t (step_of w s n c e) work.by work.acts a (step_away w s n c e quiet)
+        (held_at s r t (first holds (deeds e)) (λ x some. same_Some (whose_hold x) t (sym (holder_ends e x some) ∙ is)) held ∙ work.held (thread_of s t).body.held.items)
+
 pub over_of : (w : Work) (s r : State) (n : ℕ) (c : CpuId) (e : Event) → IsCause w s c.0 e → Scripted w s → Stepped (step_of w s n c e) s r → HeldGo s r e → OverIf w s r (ender e)
-over_of w s r n c (Tick t) cause before a held = over_running w s r c.0 t.0 (step_of w s n c (Tick t)) (op.Run cause.0.0) (cause.0.1) a (step_away w s n c (Tick t) refl) (held.each t.0)
-over_of w s r n c (Yield t) cause before a held = over_running w s r c.0 t.0 (step_of w s n c (Yield t)) (op.Yield) (cause) a (step_away w s n c (Yield t) refl) (held.each t.0)
-over_of w s r n c (Nap t) cause before a held = over_running w s r c.0 t.0 (step_of w s n c (Nap t)) (op.Nap cause.0) (cause.1) a (step_away w s n c (Nap t) refl) (held.each t.0)
-over_of w s r n c (Sleep t k) cause before a held = over_running w s r c.0 t.0 (step_of w s n c (Sleep t k)) (op.Sleep k) (cause) a (step_away w s n c (Sleep t k) refl) (held.each t.0)
-over_of w s r n c (Wake t k u) cause before a held = over_running w s r c.0 t.0 (step_of w s n c (Wake t k u)) (op.Wake k) (cause.0) a (step_away w s n c (Wake t k u) refl) (held.each t.0)
-over_of w s r n c (Wakeall t k) cause before a held = over_running w s r c.0 t.0 (step_of w s n c (Wakeall t k)) (op.WakeAll k) (cause) a (step_away w s n c (Wakeall t k) refl) (held.each t.0)
-over_of w s r n c (Enter t l) cause before a held = over_running w s r c.0 t.0 (step_of w s n c (Enter t l)) (op.Enter l) (cause.0) a (step_away w s n c (Enter t l) refl) (held.put.at)
-over_of w s r n c (Read t l) cause before a held = over_running w s r c.0 t.0 (step_of w s n c (Read t l)) (op.Read l) (cause.0) a (step_away w s n c (Read t l) refl) (held.put.at)
-over_of w s r n c (Write t l) cause before a held = over_running w s r c.0 t.0 (step_of w s n c (Write t l)) (op.Write l) (cause.0) a (step_away w s n c (Write t l) refl) (held.put.at)
-over_of w s r n c (Exit t l) cause before a held = over_running w s r c.0 t.0 (step_of w s n c (Exit t l)) (op.Exit l) (cause) a (step_away w s n c (Exit t l) refl) (held.put.at)
 over_of w s r n c (Grant l u at) (inl cause) before a held = over_granted w s r u.0 l Writer (place_put w n u.0 at) (before u.0 (waiter_found s l.0 Writer u.0 cause.1).inside) (waiter_found s l.0 Writer u.0 cause.1).stands a (put_no_waiter w n u.0 at) held.put.at
 over_of w s r n c (Grant l u at) (inr cause) before a held = over_granted w s r u.0 l Reader (place_put w n u.0 at) (before u.0 (waiter_found s l.0 Reader u.0 cause.1).inside) (waiter_found s l.0 Reader u.0 cause.1).stands a (put_no_waiter w n u.0 at) held.put.at
-over_of w s r n c (Prio t u answer) cause before a held = over_running w s r c.0 t.0 (step_of w s n c (Prio t u answer)) (op.Prio u cause.0) (cause.1) a (step_away w s n c (Prio t u answer) refl) (held.each t.0)
-over_of w s r n c (CvWait t k l) cause before a held = over_running w s r c.0 t.0 (step_of w s n c (CvWait t k l)) (op.CvWait k l) (cause) a (step_away w s n c (CvWait t k l) refl) (held.put.at)
-over_of w s r n c (SemaP t k) cause before a held = over_running w s r c.0 t.0 (step_of w s n c (SemaP t k)) (op.SemaP k) (cause.0) a (step_away w s n c (SemaP t k) refl) (held.each t.0)
-over_of w s r n c (SemaWait t k) cause before a held = over_running w s r c.0 t.0 (step_of w s n c (SemaWait t k)) (op.SemaP k) (cause.0) a (step_away w s n c (SemaWait t k) refl) (held.each t.0)
-over_of w s r n c (SemaVWake t k u at) cause before a held = over_running w s r c.0 t.0 (step_of w s n c (SemaVWake t k u at)) (op.SemaV k) (cause.0) a (step_away w s n c (SemaVWake t k u at) refl) (held.each t.0)
-over_of w s r n c (SemaVCount t k m) cause before a held = over_running w s r c.0 t.0 (step_of w s n c (SemaVCount t k m)) (op.SemaV k) (cause.0) a (step_away w s n c (SemaVCount t k m) refl) (held.each t.0)
-over_of w s r n c (Assign t d to answer) cause before a held = over_running w s r c.0 t.0 (step_of w s n c (Assign t d to answer)) (op.Assign d to) (cause.0) a (step_away w s n c (Assign t d to answer) refl) (held.each t.0)
-over_of w s r n c (Bind t u d answer) cause before a held = over_running w s r c.0 t.0 (step_of w s n c (Bind t u d answer)) (op.Pbind u d) (cause.0) a (step_away w s n c (Bind t u d answer) refl) (held.each t.0)
-over_of w s r n c e cause before a held = tt
+over_of w s r n c (Block t l) cause before a held = tt
+over_of w s r n c e cause before a held = over_else w s r n c e refl refl cause a held
 
 -- the locks that another thread holds
 held_other : (s r : State) (e : Event) (u : ℕ) → HeldGo s r e → ((t : ℕ) → ender e ≡ Some t → u ≢ t) → (thread_of r u).body.held.items ≡ (thread_of s u).body.held.items

@@ -33,8 +33,7 @@ use Rattle.sd_invariants.specs.Laws.{HoldsWhenReached, OpenHold, IsRising}
 use Rattle.sd_frames.proofs.Parts.{put_item}
 use Rattle.sd_frames.proofs.CpuWords as C
 use Rattle.sd_frames.proofs.FieldWords as F
-use Rattle.sd_frames.proofs.PlainWords.{drop_keeps}
-use Rattle.sd_invariants.proofs.OpenLemmas.{place_part, place_marks, places_plain, SamePlaces, cpus_same, open_field, finish_open, open_same, other_place}
+use Rattle.sd_invariants.proofs.OpenLemmas.{place_part, place_marks, drop_places, SamePlaces, cpus_same, open_field, finish_open, open_same, other_place}
 use Rattle.sd_invariants.proofs.Whole.{reached_whole}
 use Rattle.sd_invariants.specs.There.{IsSetThere, SetsAreOpen}
 use Rattle.sd_invariants.proofs.Induction.{held_reached}
@@ -138,9 +137,6 @@ assigned_open w s t d to assign.EINVAL sets rises many some = same_open w s (ass
 assigned_open w s t d to assign.EBUSY sets rises many some = same_open w s (assigned w s t d to assign.EBUSY) (refused_open w s t d to assign.EBUSY (λ e. cc)) some
 
 -- A dropped ageing leaves open lists and sets.
-
-drop_places : (s : State) (c : ℕ) (e : Event) → SamePlaces s (drop_ageing s c e)
-drop_places s c e = drop_keeps place_part places_plain s c e
 
 drop_open : (s : State) (c : ℕ) (e : Event) → (drop_ageing s c e).open_cpus ≡ s.open_cpus
 unfolding drop_ageing set_duty

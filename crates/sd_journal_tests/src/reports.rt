@@ -5,7 +5,7 @@ use crate::given::{Judged, judge};
 use crate::shown::{begun, entry, take_in};
 use sd_report::{report, sheet};
 use sd_state::Place;
-use sd_stretches::History;
+use sd_stretches::{ByThread, History};
 use sd_types::{ChanId, CpuId, Event, LockId, ThreadId, Work};
 use std::alloc::{AllocError, Global};
 
@@ -72,12 +72,12 @@ fn take_eight(alloc: Global, history: &mut History) -> Result<(), AllocError> {
     Ok(())
 }
 
-fn is_table(alloc: Global, work: &Work, history: &History) -> Result<bool, AllocError> {
+fn is_table(alloc: Global, work: &Work, history: &ByThread) -> Result<bool, AllocError> {
     let table = report(alloc, work, history)?;
     Ok(table.as_slice() == TABLE)
 }
 
-fn is_sheet(alloc: Global, work: &Work, history: &History) -> Result<bool, AllocError> {
+fn is_sheet(alloc: Global, work: &Work, history: &ByThread) -> Result<bool, AllocError> {
     let rows = sheet(alloc, work, history)?;
     Ok(rows.as_slice() == SHEET)
 }
@@ -86,7 +86,7 @@ fn is_sheet(alloc: Global, work: &Work, history: &History) -> Result<bool, Alloc
 fn wrong_form(
     alloc: Global,
     work: &Work,
-    history: &History,
+    history: &ByThread,
 ) -> Result<Option<&'static str>, AllocError> {
     if !is_table(alloc, work, history)? {
         return Ok(Some("the table"));
@@ -100,16 +100,15 @@ fn wrong_form(
 fn wrong_behind_eight(
     alloc: Global,
     work: &Work,
-    history: &mut History,
+    mut history: History,
 ) -> Result<Option<&'static str>, AllocError> {
-    take_eight(alloc, history)?;
-    wrong_form(alloc, work, history)
+    take_eight(alloc, &mut history)?;
+    wrong_form(alloc, work, &history.by_thread(alloc)?)
 }
 
 /// What is wrong with the report of the eight entries.
 pub(crate) fn wrong_report(alloc: Global, work: &Work) -> Result<Option<&'static str>, AllocError> {
-    let mut history = begun(alloc)?;
-    wrong_behind_eight(alloc, work, &mut history)
+    wrong_behind_eight(alloc, work, begun(alloc)?)
 }
 
 #[test]

@@ -2,7 +2,7 @@
 
 use crate::given::{in_place, is_so, state};
 use sd_state::{CpuState, Place, State};
-use sd_stretches::{History, Stretch, levels, stretches};
+use sd_stretches::{ByThread, History, Stretch, levels, stretches};
 use sd_types::{CpuId, Duty, Entry, Event, SetId, ThreadId};
 use std::alloc::{AllocError, Global};
 
@@ -54,7 +54,7 @@ pub(crate) fn take_in(
         return Ok(());
     }
     let s = at_tick(alloc, place, count)?;
-    history.add(alloc, &s, entry)
+    history.add(&s, entry)
 }
 
 fn take_three(alloc: Global, history: &mut History) -> Result<(), AllocError> {
@@ -87,24 +87,24 @@ fn are_rows(found: &[Stretch]) -> bool {
     true
 }
 
-fn has_rows(alloc: Global, history: &History) -> Result<bool, AllocError> {
-    let own = stretches(alloc, &history.onsets, 0, history.entries, 5)?;
+fn has_rows(alloc: Global, history: &ByThread) -> Result<bool, AllocError> {
+    let own = stretches(alloc, history, 0, 5)?;
     Ok(are_rows(&own))
 }
 
-fn has_one_level(alloc: Global, history: &History) -> Result<bool, AllocError> {
-    let own = levels(alloc, &history.ranks, 0, 5)?;
+fn has_one_level(alloc: Global, history: &ByThread) -> Result<bool, AllocError> {
+    let own = levels(alloc, history, 0, 5)?;
     Ok(own.len() == 1)
 }
 
-fn is_shown(alloc: Global, history: &mut History) -> Result<bool, AllocError> {
-    take_three(alloc, history)?;
+fn is_shown(alloc: Global, history: &ByThread) -> Result<bool, AllocError> {
     Ok(has_rows(alloc, history)? && has_one_level(alloc, history)?)
 }
 
 fn runs_for_a_tick(alloc: Global) -> Result<bool, AllocError> {
     let mut history = begun(alloc)?;
-    is_shown(alloc, &mut history)
+    take_three(alloc, &mut history)?;
+    is_shown(alloc, &history.by_thread(alloc)?)
 }
 
 /// A thread is dispatched, ticks once and ends: it is runnable, runs for a tick, and has ended.

@@ -1,7 +1,8 @@
 -- What each event comes to, but for those that change a set or a binding.
-use Rattle.std.proofs.Common.{◌≡◌, ◌≢◌, ℕ, ◌+◌, ◌-◌, ◌<◌, ◌≤◌, Bool, true, false, ◌&&◌, length, Option, Some, None, is_none, refl, sym, ap, ◌∙◌, subst, inl, inr, ◌⊎◌, arith, ℤ}
+use Rattle.std.proofs.Common.{◌≡◌, ◌≢◌, ℕ, ◌<◌, ◌≤◌, Bool, true, false, ◌&&◌, List, ◌∷◌, length, Option, Some, None, is_none, refl, sym, ap, ◌∙◌, subst, inl, inr, ◌⊎◌, arith, ℤ}
 use Rattle.std.specs.Prelude.{if◌then◌else◌, nat_lt, ◌==◌}
-use Rattle.std.proofs.lemmas.Bool.{cases_eq, eqb-true, false≢true, or_parts}
+use Rattle.std.specs.List.{list_all}
+use Rattle.std.proofs.lemmas.Bool.{cases_eq, eqb-true, false≢true, and_parts, or_parts}
 use Rattle.std.proofs.lemmas.Bool.Decides.{nat_tests}
 use Rattle.sd_basics.proofs.Numbers.{same_itself}
 use Rattle.sd_basics.proofs.Truths.{and_left, and_right}
@@ -12,16 +13,13 @@ use Rattle.sd_types.specs.declared.numbers.Side.TheVariants.{Writer, Reader}
 use Rattle.sd_types.specs.declared.numbers.ThreadId.{ThreadId}
 use Rattle.sd_types.specs.declared.classes.ClassState.{ClassState}
 use Rattle.sd_types.specs.declared.classes.ClassState.TheVariants.{Ts, Fx, Sys, Rt}
-use Rattle.sd_types.specs.declared.numbers.SetId.{SetId}
-use Rattle.sd_types.specs.declared.events.AssignAnswer.{AssignAnswer}
 use Rattle.sd_types.specs.declared.events.AssignAnswer.TheVariants as assign
-use Rattle.sd_types.specs.declared.events.BindAnswer.{BindAnswer}
 use Rattle.sd_types.specs.declared.events.BindAnswer.TheVariants as bind_answer
 use Rattle.sd_types.specs.declared.events.Duty.{Duty}
 use Rattle.sd_types.specs.declared.events.Duty.TheVariants as duty
 use Rattle.sd_types.specs.declared.events.End.{End}
 use Rattle.sd_types.specs.declared.events.Event.{Event}
-use Rattle.sd_types.specs.declared.events.Event.TheVariants.{Tick, Spin, Idle, Dispatch, Steal, Preempt, Yield, Done, Nap, Napend, Sleep, Wake, Wakeall, Rouse, Enter, Read, Write, Block, Will, End as WalkEnd, Exit, Unblock, Grant, Passed, Age, Prio, CvWait, SemaP, SemaWait, SemaVWake, SemaVCount, Assign, Move, Joined, Bind, Away}
+use Rattle.sd_types.specs.declared.events.Event.TheVariants.{Tick, Spin, Dispatch, Steal, Preempt, Yield, Napend, Wake, Rouse, Will, Exit, Unblock, Grant, Age, Prio, CvWait, SemaVWake, Assign, Move, Joined, Bind, Away}
 use Rattle.sd_types.specs.declared.events.PrioAnswer.{PrioAnswer}
 use Rattle.sd_types.specs.declared.events.PrioAnswer.TheVariants.{Changed, Refused}
 use Rattle.sd_types.specs.declared.events.Put.{Put}
@@ -33,22 +31,25 @@ use Rattle.sd_types.specs.Willed.{without_number, changed_number}
 use Rattle.sd_rules.specs.ClassRules.{class_expires, class_requeue}
 use Rattle.sd_state.specs.declared.states.Place.{Place}
 use Rattle.sd_state.specs.declared.states.Place.TheVariants.{Running, Queued, RealTime, Waiting, Asleep, Napping, Ended}
-use Rattle.sd_state.specs.declared.states.LockState.TheVariants.{Owned}
 use Rattle.sd_state.specs.declared.states.State.{State}
 use Rattle.sd_state.specs.States.{thread_of, cpu_of, is_running, is_queued, is_ready, eff_of}
 use Rattle.sd_state.specs.Operations.{op_of}
-use Rattle.sd_machine.specs.Threads.{thread_id, runner, greatest_waiting, lock_of, with_lock, with_count, count_of, best_sleeper, is_ts, is_waiting_at, is_asleep, is_asleep_below, is_due}
+use Rattle.sd_machine.specs.Threads.{runner, greatest_waiting, is_ts, is_waiting_at, is_asleep, is_asleep_below, is_due}
 use Rattle.sd_machine.specs.Bodies.{ticked_class, aged_class}
-use Rattle.sd_machine.specs.Changes.{back_key, key_at, queue_place, place_put, finish_op, run_tick, set_class, set_duty, count_tick, remark, put, put_where}
-use Rattle.sd_machine.specs.Dispatching.{must_leave, charge, class_counts, ticked, spun, idled}
-use Rattle.sd_machine.specs.Sleeping.{woke, woke_all, roused}
-use Rattle.sd_machine.specs.Locking.{owned, read, one_more, released, exited, others_waiting, writer_priority, granted, passed}
+use Rattle.sd_machine.specs.Changes.{back_key, key_at, queue_place, place_put, finish_op, run_tick, set_class, set_duty, count_tick, remark, leave, put, put_where}
+use Rattle.sd_machine.specs.Dispatching.{must_leave, charge, class_counts, ticked, spun}
+use Rattle.sd_machine.specs.Sleeping.{woke, roused}
+use Rattle.sd_machine.specs.Locking.{released, exited, others_waiting, writer_priority, granted}
 use Rattle.sd_machine.specs.Requeueing.{reordered_at, reordered}
-use Rattle.sd_machine.specs.Walking.{walked, willed, walk_ended}
+use Rattle.sd_machine.specs.Walking.{walked, willed}
 use Rattle.sd_machine.specs.Prioritising.{new_class, walk_from, changed_by, changed_on, reprioritised, lifted, aged}
-use Rattle.sd_machine.specs.Conditions.{sema_taken, sema_counted}
-use Rattle.sd_machine.specs.SetChanges.{assigned, moved, pbound}
+use Rattle.sd_machine.specs.SetChanges.{moved}
 use Rattle.sd_machine.specs.Events.{dropped_duty, drop_ageing, effect, after}
+use Rattle.sd_machine.specs.Deeds.{Deed, GoesTo, MovesCpu, BindsThread, Whither, ToQueue, ToSleep, ToWait, ToNap, ToEnd, place_to, did, all_did, deeds, first}
+use Rattle.sd_machine.proofs.DeedLemmas.{all_keep, effect_did}
+use Rattle.sd_frames.specs.Moves.{leaver, moves, stride_of}
+use Rattle.sd_frames.proofs.Leavers.{leaver_runs}
+use Rattle.sd_frames.proofs.Made.{Kind, Keeps, Any, kinds, deed_made, Over, Ran, Back, Held, Looped, Dutied, Ticked, Locked, Counted}
 use Rattle.sd_state.specs.Invariants.{is_marked}
 use Rattle.sd_state.proofs.Chosen.{running_not_queued}
 use Rattle.sd_frames.specs.Causes.{Runs, IsPut as IsPutAt, IsRequeuedAt, WakesBest, RousesBest, IsAnswered, IsCause}
@@ -56,13 +57,13 @@ use Rattle.sd_frames.proofs.Found.{runner_found, ready_found, queued_found, unbo
 use Rattle.sd_invariants.proofs.Movers.{owner_thread, prio_thread}
 use Rattle.sd_frames.proofs.PassLemmas.{drop_duties}
 use Rattle.sd_frames.proofs.Searches.{nobody_runs}
-use Rattle.sd_laws.proofs.Alike.{Weight, weight_part, heft, Calm, Alike, Weighs, Weighed, all_calm, then_calm, calm_alike, then_alike, calm_weighs, weighs_calm, weighs_alike, weighed_alike, either_calm, lock_calm, count_calm, set_duty_calm, count_tick_calm, drop_calm, finish_op_calm, run_tick_calm, hold_calm, set_class_weighs, walk_from_calm, passed_on_calm, remark_alike, charge_alike}
+use Rattle.sd_laws.proofs.Alike.{Weight, weight_part, heft, Calm, Alike, Weighs, Weighed, all_calm, then_calm, calm_alike, then_alike, calm_weighs, weighs_calm, weighs_alike, weighed_alike, lock_calm, count_calm, set_duty_calm, count_tick_calm, drop_calm, finish_op_calm, run_tick_calm, send_back_calm, set_looped_calm, hold_calm, set_class_weighs, walk_from_calm, remark_alike, charge_alike}
 use Rattle.sd_laws.proofs.Goes.{All, Others, Goes, Puts, single_back, calm_goes, goes_alike, calm_puts, weighs_puts, puts_alike, puts_to, put_puts, woken_puts, dispatched_goes, stolen_goes, sent_away_puts}
 use Rattle.sd_laws.proofs.Basics.{none_of, runs_one, running_rests}
 use Rattle.sd_laws.proofs.Calls.{some_ready, most_ready, charge_called, remark_called, tick_base, requeue_base, other_base}
 use Rattle.sd_laws.proofs.Outcomes.{Known, Home, IsOff, Rests, Remarks, Outcome, stays_rests, put_off, queue_off, queue_here, put_home, requeued_home, runs_at, queued_at, ready_at, queue_home, neighbour_set}
 use Rattle.sd_laws.proofs.Outcomes.Outcome.{alike, weighed, puts, leaves, comes}
-use Rattle.sd_laws.proofs.Words.{weighs_to, preempted_goes, yielded_goes, done_goes, napped_goes, asleep_goes, blocked_goes, released_weighs, cv_waited_goes, woken_weight, handed_puts, unblocked_puts, reader_puts, writer_puts, roused_puts, woke_puts_one, walked_weighs}
+use Rattle.sd_laws.proofs.Words.{weighs_to, preempted_goes, yielded_goes, left_goes, released_weighs, cv_waited_goes, woken_weight, handed_puts, unblocked_puts, reader_puts, writer_puts, roused_puts, woke_puts_one, walked_weighs}
 use Rattle.std.proofs.lemmas.Option.{none-some}
 
 -- Places.
@@ -92,53 +93,58 @@ outcome_alike w s r q c (comes t k x is a nobody own bound top off) b = comes t 
 
 -- Changes that leave all of this.
 
-woke_all_calm : (w : Work) (s : State) (n : ℕ) (c : CpuId) (t : ℕ) (j : ChanId) → Calm s (woke_all w s n c t j)
-unfolding woke_all
-woke_all_calm w s n c t j = then_calm s (if is_none (best_sleeper s j.0) then s else set_duty s c.0 (duty.Rouse j (back_key n))) _
-    (either_calm s s (set_duty s c.0 (duty.Rouse j (back_key n))) (is_none (best_sleeper s j.0)) (all_calm s) (set_duty_calm s c.0 _)) (finish_op_calm w _ t)
+-- the kinds of changes that do
+abbrev calm_kind : Kind → Bool
+calm_kind Over = true
+calm_kind Ran = true
+calm_kind Back = true
+calm_kind Held = true
+calm_kind Looped = true
+calm_kind Dutied = true
+calm_kind Ticked = true
+calm_kind Locked = true
+calm_kind Counted = true
+calm_kind _ = false
 
-owned_calm : (w : Work) (s : State) (t : ℕ) (l : LockId) → Calm s (owned w s t l)
-unfolding owned
-owned_calm w s t l = then_calm s (with_lock s l.0 (Owned (thread_id t))) _ (lock_calm s l.0 _) (then_calm _ _ _ (hold_calm _ t l) (finish_op_calm w _ t))
+calm_keeps : (w : Work) (k : Kind) → calm_kind k ≡ true → Keeps w Any Calm k
+calm_keeps w Over is = λ s t its. finish_op_calm w s t
+calm_keeps w Ran is = λ s t its. run_tick_calm w s t
+calm_keeps w Back is = λ s t its. send_back_calm s t
+calm_keeps w Held is = λ s t its l. hold_calm s t l
+calm_keeps w Looped is = λ s t its b. set_looped_calm s t b
+calm_keeps w Dutied is = λ s c d. set_duty_calm s c d
+calm_keeps w Ticked is = λ s c. count_tick_calm w s c
+calm_keeps w Locked is = λ s l x. lock_calm s l x
+calm_keeps w Counted is = λ s k n. count_calm s k n
+calm_keeps w _ is = cc
 
-read_calm : (w : Work) (s : State) (t : ℕ) (l : LockId) → Calm s (read w s t l)
-unfolding read
-read_calm w s t l = then_calm s (with_lock s l.0 (one_more (lock_of s l.0))) _ (lock_calm s l.0 _) (then_calm _ _ _ (hold_calm _ t l) (finish_op_calm w _ t))
+-- and the deeds: what is refused changes nothing
+abbrev calm_deed : Deed → Bool
+calm_deed (MovesCpu d to assign.Changed) = false
+calm_deed (MovesCpu d to _) = true
+calm_deed (BindsThread u d (bind_answer.Changed at)) = false
+calm_deed (BindsThread u d _) = true
+calm_deed d = list_all calm_kind (kinds d)
 
-idled_calm : (w : Work) (s : State) (c : ℕ) → Calm s (idled w s c)
-unfolding idled
-idled_calm w s c = count_tick_calm w s c
+deed_calm : (w : Work) (n : ℕ) (c : CpuId) (s : State) (d : Deed) → calm_deed d ≡ true → Calm s (did w n c s d)
+deed_calm w n c s (MovesCpu d to assign.Changed) is = cc
+deed_calm w n c s (MovesCpu d to _) is = all_calm s
+deed_calm w n c s (BindsThread u d (bind_answer.Changed at)) is = cc
+deed_calm w n c s (BindsThread u d _) is = all_calm s
+deed_calm w n c s d is = deed_made w all_calm then_calm calm_kind (λ k kind. calm_keeps w k kind) n c s d is
 
-walk_ended_calm : (s : State) (c : CpuId) → Calm s (walk_ended s c)
-unfolding walk_ended
-walk_ended_calm s c = set_duty_calm s c.0 duty.Nothing
+deeds_calm : (w : Work) (n : ℕ) (c : CpuId) (s : State) (ds : List Deed) → list_all calm_deed ds ≡ true → Calm s (all_did w n c s ds)
+deeds_calm w n c s ds is = all_keep w n c all_calm then_calm calm_deed (λ r d calm. deed_calm w n c r d calm) s ds is
 
-passed_calm : (s : State) (c : CpuId) (l : LockId) → Calm s (passed s c l)
-unfolding passed
-passed_calm s c l = passed_on_calm s c l (lock_of s l.0)
+-- A thread leaves its processor for where it rests, at most, and the rest changes none of this.
 
-sema_taken_calm : (w : Work) (s : State) (t : ℕ) (j : ChanId) → Calm s (sema_taken w s t j)
-unfolding sema_taken
-sema_taken_calm w s t j = then_calm s (with_count s j.0 (count_of s j.0 - 1)) _ (count_calm s j.0 _) (finish_op_calm w _ t)
+abbrev rests : Whither → Bool
+rests ToQueue = false
+rests _ = true
 
-sema_counted_calm : (w : Work) (s : State) (t : ℕ) (j : ChanId) → Calm s (sema_counted w s t j)
-unfolding sema_counted
-sema_counted_calm w s t j = then_calm s (with_count s j.0 (count_of s j.0 + 1)) _ (count_calm s j.0 _) (finish_op_calm w _ t)
-
-refused_calm : (w : Work) (s : State) (t : ℕ) (d : CpuId) (to : SetId) (answer : AssignAnswer) → answer ≢ assign.Changed → Calm s (assigned w s t d to answer)
-unfolding assigned
-refused_calm w s t d to assign.Changed unlike = absurd (unlike refl)
-refused_calm w s t d to assign.EPERM unlike = finish_op_calm w s t
-refused_calm w s t d to assign.EINVAL unlike = finish_op_calm w s t
-refused_calm w s t d to assign.EBUSY unlike = finish_op_calm w s t
-
-unbound_calm : (w : Work) (s : State) (n t u : ℕ) (d : Option CpuId) (answer : BindAnswer) → ((at : Option Put) → answer ≢ bind_answer.Changed at) → Calm s (pbound w s n t u d answer)
-unfolding pbound
-unbound_calm w s n t u d (bind_answer.Changed at) unlike = absurd (unlike at refl)
-unbound_calm w s n t u d bind_answer.ESRCH unlike = finish_op_calm w s t
-unbound_calm w s n t u d bind_answer.EINVAL unlike = finish_op_calm w s t
-unbound_calm w s n t u d bind_answer.EPERM unlike = finish_op_calm w s t
-unbound_calm w s n t u d bind_answer.EBUSY unlike = finish_op_calm w s t
+abbrev is_quiet : List Deed → Bool
+is_quiet (GoesTo t whither ∷ ds) = rests whither && list_all calm_deed ds
+is_quiet ds = list_all calm_deed ds
 
 moved_puts : (w : Work) (s : State) (n t : ℕ) (at : Put) → t < length s.threads → Puts All s (moved w s n t at) t (place_put w n t at) (weight_part (thread_of s t))
 unfolding moved
@@ -510,63 +516,68 @@ module _ (w : Work) (s : State) (k : Known w s) (n : ℕ) (c : CpuId) (c_in : c.
   acts_leave e t place x runs a home off apart =
       leave_out e t place x runs (a (in_drop e t (runner_found s c.0 t runs).inside) (cpu_drop e)) home off (λ d other queued. false≢true (sym (apart d) ∙ queued))
 
+  rests_at : (q : State) (t : ℕ) (whither : Whither) → rests whither ≡ true → Home w s t (weight_part (thread_of q t)) (place_to w n c q t whither)
+      × IsOff (place_to w n c q t whither) × ((d : ℕ) → is_queued d (place_to w n c q t whither) ≡ false)
+  rests_at q t ToQueue is = cc
+  rests_at q t (ToSleep j) is = (tt, λ d. refl, λ d. refl)
+  rests_at q t (ToWait l) is = (tt, λ d. refl, λ d. refl)
+  rests_at q t ToNap is = (tt, λ d. refl, λ d. refl)
+  rests_at q t ToEnd is = (tt, λ d. refl, λ d. refl)
+
+  after_deeds : (e : Event) (ds : List Deed) → deeds e ≡ ds → all_did w n c (drop_ageing s c.0 e) ds ≡ after w s n c e
+  unfolding after
+  after_deeds e ds is = sym (effect_did w (drop_ageing s c.0 e) n c e ∙ ap (λ xs. all_did w n c (drop_ageing s c.0 e) xs) is)
+
+  -- of such deeds
+  quiet_out : (e : Event) (ds : List Deed) → deeds e ≡ ds → is_quiet ds ≡ true → ((t : ℕ) → leaver (stride_of e) ≡ Some t → Runs s c.0 t) → Outcome w s (after w s n c e) c.0
+  quiet_out e (GoesTo t whither ∷ ds) is quiet runs =
+      let q : State = drop_ageing s c.0 e in
+      let place : Place = place_to w n c q t whither in
+      let both = and_parts (rests whither) (list_all calm_deed ds) quiet in
+      let at = rests_at q t whither both.0 in
+      acts_leave e t place (weight_part (thread_of q t)) (runs t (ap (λ xs. leaver (first moves xs)) is))
+      (λ i h. subst (λ r. Goes (Others c.0) q r t place (weight_part (thread_of q t))) (after_deeds e (GoesTo t whither ∷ ds) is)
+      (left_goes w q n c t i h (all_did w n c (leave q c.0 t place) ds) place (deeds_calm w n c (leave q c.0 t place) ds both.1)))
+      at.0 at.1 at.2
+  quiet_out e ds is quiet runs = calm_out e (subst (λ r. Calm (drop_ageing s c.0 e) r) (after_deeds e ds is) (deeds_calm w n c (drop_ageing s c.0 e) ds quiet))
+
   pub event_out : (e : Event) → keeps_sets e ≡ true → IsCause w s c.0 e → Outcome w s (after w s n c e) c.0
   unfolding after effect drop_ageing set_duty
   event_out (Tick t) settled cause =
       ticked_out (drop_ageing s c.0 (Tick t)) t.0 (drop_calm s c.0 (Tick t)) cause.0.1.runs
   event_out (Spin t l) settled cause = spun_out (drop_ageing s c.0 (Spin t l)) t.0 (drop_calm s c.0 (Spin t l)) cause.0.1.acts.runs
-  event_out Idle settled cause = calm_out Idle (idled_calm w _ c.0)
   event_out (Dispatch t p) settled cause = dispatch_out t p cause
   event_out (Steal v t p) settled cause = steal_out v t p cause
   event_out (Preempt t end) settled cause = preempt_out t end cause
   event_out (Away t d) settled cause = away_out t d cause
   event_out (Yield t) settled cause = yield_out t cause
-  event_out (Done t) settled cause = acts_leave (Done t) t.0 Ended _ cause.runs (λ i h. done_goes w (drop_ageing s c.0 (Done t)) n c t.0 i h) tt (λ d. refl) (λ d. refl)
-  event_out (Nap t) settled cause = acts_leave (Nap t) t.0 _ _ cause.1.runs (λ i h. napped_goes w (drop_ageing s c.0 (Nap t)) n c t.0 i h) tt (λ d. refl) (λ d. refl)
   event_out (Napend t at) settled cause =
       let found = due_found s c.0 t.0 cause.0 in
       puts_out (Napend t at) t.0 at (woken_weight w (weight_part (thread_of s t.0))) (woken_puts w (drop_ageing s c.0 (Napend t at)) n t.0 at (in_drop (Napend t at) t.0 found.inside)) cause.1
       (off_by (is_due c.0 (cpu_of s c.0).count) (λ d. refl) (thread_of s t.0).place found.stands)
-  event_out (Sleep t j) settled cause = acts_leave (Sleep t j) t.0 _ _ cause.runs (λ i h. asleep_goes w (drop_ageing s c.0 (Sleep t j)) n c t.0 i h j) tt (λ d. refl) (λ d. refl)
   event_out (Wake t j u) settled cause = wake_out t j u cause.1
-  event_out (Wakeall t j) settled cause = calm_out (Wakeall t j) (woke_all_calm w _ n c t.0 j)
   event_out (Rouse j u) settled cause = rouse_out j cause.0 u cause.2
-  event_out (Enter t l) settled cause = calm_out (Enter t l) (owned_calm w _ t.0 l)
-  event_out (Read t l) settled cause = calm_out (Read t l) (read_calm w _ t.0 l)
-  event_out (Write t l) settled cause = calm_out (Write t l) (owned_calm w _ t.0 l)
-  event_out (Block t l) settled cause = acts_leave (Block t l) t.0 _ _ cause.1.acts.runs (λ i h. blocked_goes w (drop_ageing s c.0 (Block t l)) n c t.0 i h l) tt (λ d. refl) (λ d. refl)
   event_out (Will l o p at) settled cause = will_out l o p at cause
-  event_out (WalkEnd l) settled cause = calm_out (WalkEnd l) (walk_ended_calm _ c)
   event_out (Exit t l) settled cause = exit_out t l cause
   event_out (Unblock l u at) settled cause =
       let found = waiter_found s l.0 Writer u.0 cause.1 in
       puts_out (Unblock l u at) u.0 at (woken_weight w (weight_part (thread_of s u.0))) (unblocked_puts w (drop_ageing s c.0 (Unblock l u at)) n u.0 at (in_drop (Unblock l u at) u.0 found.inside) c l) cause.2
       (off_by (is_waiting_at l.0 Writer) (λ d. refl) (thread_of s u.0).place found.stands)
   event_out (Grant l u at) settled cause = grant_out l u at cause
-  event_out (Passed l) settled cause = calm_out (Passed l) (passed_calm _ c l)
   event_out (Age t p) settled cause =
       let found = age_found s c.0 (cause.0).0 t.0 cause.2 in
       age_drop t p found.inside found.stands
   event_out (Prio t u answer) settled cause = prio_out t u answer cause
   event_out (CvWait t j l) settled cause = acts_leave (CvWait t j l) t.0 _ _ cause.runs (λ i h. cv_waited_goes w (drop_ageing s c.0 (CvWait t j l)) n c t.0 i h j l) tt (λ d. refl) (λ d. refl)
-  event_out (SemaP t j) settled cause = calm_out (SemaP t j) (sema_taken_calm w _ t.0 j)
-  event_out (SemaWait t j) settled cause = acts_leave (SemaWait t j) t.0 _ _ cause.0.runs (λ i h. asleep_goes w (drop_ageing s c.0 (SemaWait t j)) n c t.0 i h j) tt (λ d. refl) (λ d. refl)
   event_out (SemaVWake t j u at) settled cause =
       let found = sleeper_found s j.0 u.0 cause.1.best in
       puts_out (SemaVWake t j u at) u.0 at (woken_weight w (weight_part (thread_of s u.0))) (handed_puts w (drop_ageing s c.0 (SemaVWake t j u at)) n u.0 at (in_drop (SemaVWake t j u at) u.0 found.inside) t.0) cause.1.put
       (off_by (is_asleep j.0) (λ d. refl) (thread_of s u.0).place found.stands)
-  event_out (SemaVCount t j m) settled cause = calm_out (SemaVCount t j m) (sema_counted_calm w _ t.0 j)
   event_out (Assign t d to assign.Changed) settled cause = cc
-  event_out (Assign t d to assign.EPERM) settled cause = calm_out (Assign t d to assign.EPERM) (refused_calm w _ t.0 d to assign.EPERM (λ e. cc))
-  event_out (Assign t d to assign.EINVAL) settled cause = calm_out (Assign t d to assign.EINVAL) (refused_calm w _ t.0 d to assign.EINVAL (λ e. cc))
-  event_out (Assign t d to assign.EBUSY) settled cause = calm_out (Assign t d to assign.EBUSY) (refused_calm w _ t.0 d to assign.EBUSY (λ e. cc))
   event_out (Move t at) settled cause =
       let found = queued_found s c.0 t.0 cause.1 in
       puts_out (Move t at) t.0 at (weight_part (thread_of s t.0)) (moved_puts w (drop_ageing s c.0 (Move t at)) n t.0 at (in_drop (Move t at) t.0 found.inside)) cause.2
       (off_by (is_queued c.0) (λ d. refl) (thread_of s t.0).place found.stands)
   event_out (Joined to) settled cause = cc
   event_out (Bind t u d (bind_answer.Changed at)) settled cause = cc
-  event_out (Bind t u d bind_answer.ESRCH) settled cause = calm_out (Bind t u d bind_answer.ESRCH) (unbound_calm w _ n t.0 u.0 d bind_answer.ESRCH (λ at e. cc))
-  event_out (Bind t u d bind_answer.EINVAL) settled cause = calm_out (Bind t u d bind_answer.EINVAL) (unbound_calm w _ n t.0 u.0 d bind_answer.EINVAL (λ at e. cc))
-  event_out (Bind t u d bind_answer.EPERM) settled cause = calm_out (Bind t u d bind_answer.EPERM) (unbound_calm w _ n t.0 u.0 d bind_answer.EPERM (λ at e. cc))
-  event_out (Bind t u d bind_answer.EBUSY) settled cause = calm_out (Bind t u d bind_answer.EBUSY) (unbound_calm w _ n t.0 u.0 d bind_answer.EBUSY (λ at e. cc))
+  event_out e settled cause = quiet_out e (deeds e) refl refl (leaver_runs w s c.0 e cause)

@@ -21,8 +21,7 @@ use Rattle.sd_machine.specs.Events.{drop_ageing, effect, after}
 use Rattle.sd_frames.specs.Causes.{IsCause}
 use Rattle.sd_frames.proofs.Parts.{same_item}
 use Rattle.sd_frames.proofs.CpuWords as C
-use Rattle.sd_frames.proofs.PlainWords.{drop_keeps}
-use Rattle.sd_invariants.proofs.OpenLemmas.{place_part, place_marks, places_plain, SamePlaces, cpus_same, other_place}
+use Rattle.sd_invariants.proofs.OpenLemmas.{place_part, place_marks, drop_places, SamePlaces, cpus_same, other_place}
 use Rattle.sd_invariants.proofs.Ready.{ready_cause, reached_ready}
 use Rattle.sd_frames.proofs.Searches.{none_stands, nobody_runs}
 use Rattle.sd_laws.specs.Changes.{IsEmpty, IsJoining, SetsChangeByJoining}
@@ -59,7 +58,7 @@ joined_others s c to d other =
     ap (λ (x : SetId × Option SetId). x.0) (other_place (with_open s to.0 (with_cpu_in c (open_of s to.0))) c.0 (record (cpu_of s c.0) { set = to; closing = None }) d other)
 
 pub drop_sets : (s : State) (c : ℕ) (e : Event) → SameSets s (drop_ageing s c e)
-drop_sets s c e = sets_of s (drop_ageing s c e) (drop_keeps place_part places_plain s c e)
+drop_sets s c e = sets_of s (drop_ageing s c e) (drop_places s c e)
 
 sets_by : (w : Work) (s : State) (n : ℕ) (c : CpuId) (e : Event) → IsCause w s c.0 e → (d : ℕ) → ((cpu_of (after w s n c e) d).set ≡ (cpu_of s d).set) ⊎ IsJoining s c e d
 unfolding after effect

@@ -42,7 +42,7 @@ use Rattle.sd_invariants.proofs.AgreedAfter.{IsReady, lock_inside, not_free_pass
 use Rattle.sd_invariants.proofs.AgreedEvents.{lock_named}
 use Rattle.sd_frames.proofs.CpuWords as C
 use Rattle.sd_frames.proofs.Found.{runner_found, waiter_found}
-use Rattle.sd_frames.proofs.HoldTable.{numbers_part, numbers_moves, numbers_ops, looped_part, looped_moves, looped_ops, Goes, owned_numbers, owned_looped, exited_numbers, exited_looped, cv_waited_numbers, cv_waited_looped, granted_to_writer_numbers, granted_to_writer_looped, granted_to_reader_numbers, granted_to_reader_looped}
+use Rattle.sd_frames.proofs.HoldTable.{numbers_part, numbers_same, looped_part, looped_same, Goes, exited_numbers, cv_waited_numbers, granted_to_writer_numbers, granted_to_reader_numbers}
 use Rattle.sd_frames.proofs.LockTable as T
 use Rattle.sd_frames.proofs.Parts.{put_item, same_item, same_is_put}
 use Rattle.sd_frames.proofs.PassLemmas.{drop_duties, Woken, unblock_outcome}
@@ -52,7 +52,7 @@ use Rattle.sd_frames.proofs.ReleaseLemmas.{Outcome, drop_shape, exit_outcome, cv
 use Rattle.sd_frames.proofs.ReleaseLemmas.Outcome.{freed, passed_on, fewer, left, nothing}
 use Rattle.sd_invariants.proofs.ScriptLemmas.{waits_here, away_after}
 use Rattle.sd_invariants.proofs.Movers.{mover_of}
-use Rattle.sd_frames.proofs.Words.{Same, then_same, plain_same}
+use Rattle.sd_frames.proofs.Words.{Same, then_same}
 use Rattle.sd_laws.proofs.Begun.{duty_walk, walks_then, none_walks, block_walk}
 use Rattle.sd_laws.proofs.ClassThreads.{after_but}
 use Rattle.sd_laws.proofs.Exact.{exact_waiting}
@@ -74,12 +74,12 @@ module _ (w : Work) (s : State) (n : ℕ) (c : CpuId) (ready : IsReady w s) wher
     walks = (block_walk w s n c t l here).put;
     owner = same_owners s (after w s n c (Block t l)) (block_locks w s n c t l);
     willed = same_willed s (after w s n c (Block t l)) numbers;
-    looped = (plain_same looped_part looped_moves looped_ops w s n c (Block t l) refl).each;
+    looped = (looped_same w s n c (Block t l) refl).each;
     eff = seen_eff None s (after w s n c (Block t l)) (after_but w s n c (Block t l)) tt numbers;
   }
     where
       numbers : Same numbers_part s (after w s n c (Block t l))
-      numbers = plain_same numbers_part numbers_moves numbers_ops w s n c (Block t l) refl
+      numbers = numbers_same w s n c (Block t l) refl
 
   -- A free lock is taken.
 
@@ -103,37 +103,21 @@ module _ (w : Work) (s : State) (n : ℕ) (c : CpuId) (ready : IsReady w s) wher
       nobody : (u : ℕ) → G.IsOn (graph r) l u → ⊥
       nobody u (v, is, at) = ready.agreed.free l u (ap lock_state free) (ap (λ (x : Option G.Wait). option_map (λ (y : G.Wait). y.lock) x) (sym (waits u) ∙ is) ∙ ap Some at)
 
-  enter_numbers : (t : ThreadId) (l : LockId) → Same numbers_part s (after w s n c (Enter t l))
-  unfolding after effect
-  enter_numbers t l = then_same numbers_part s (drop_ageing s c.0 (Enter t l)) _ (dropped_same numbers_part s c.0 (Enter t l)) (owned_numbers w _ t.0 l)
-
-  enter_looped : (t : ThreadId) (l : LockId) → Same looped_part s (after w s n c (Enter t l))
-  unfolding after effect
-  enter_looped t l = then_same looped_part s (drop_ageing s c.0 (Enter t l)) _ (dropped_same looped_part s c.0 (Enter t l)) (owned_looped w _ t.0 l)
-
   pub enter_move : (t : ThreadId) (l : LockId) → G.IsLocal (graph s) → IsCause w s c.0 (Enter t l) → IsAcquire (graph s) (graph (after w s n c (Enter t l))) t.0 l.0
   enter_move t l local cause =
       taken (after w s n c (Enter t l)) t.0 l.0 local cause.1 (lock_named w s c.0 t.0 (op.Enter l) ready.fits cause.0 l (λ d e. inl e)) (enter_locks w s n c t l).are
       (no_wait (thread_of s t.0).place (runs_away s c.0 t.0 cause.0.runs))
       (quiet_waits (step_of w s n c (Enter t l)) s (after w s n c (Enter t l)) (steps w s n c ready (Enter t l) cause) tt tt)
-      (enter_numbers t l) (enter_looped t l) (after_walks w s n c (Enter t l) refl (cause_walks w s c.0 (Enter t l) refl cause))
-      (seen_eff None s (after w s n c (Enter t l)) (after_but w s n c (Enter t l)) tt (enter_numbers t l))
-
-  write_numbers : (t : ThreadId) (l : LockId) → Same numbers_part s (after w s n c (Write t l))
-  unfolding after effect
-  write_numbers t l = then_same numbers_part s (drop_ageing s c.0 (Write t l)) _ (dropped_same numbers_part s c.0 (Write t l)) (owned_numbers w _ t.0 l)
-
-  write_looped : (t : ThreadId) (l : LockId) → Same looped_part s (after w s n c (Write t l))
-  unfolding after effect
-  write_looped t l = then_same looped_part s (drop_ageing s c.0 (Write t l)) _ (dropped_same looped_part s c.0 (Write t l)) (owned_looped w _ t.0 l)
+      (numbers_same w s n c (Enter t l) refl) (looped_same w s n c (Enter t l) refl) (after_walks w s n c (Enter t l) refl (cause_walks w s c.0 (Enter t l) refl cause))
+      (seen_eff None s (after w s n c (Enter t l)) (after_but w s n c (Enter t l)) tt (numbers_same w s n c (Enter t l) refl))
 
   pub write_move : (t : ThreadId) (l : LockId) → G.IsLocal (graph s) → IsCause w s c.0 (Write t l) → IsAcquire (graph s) (graph (after w s n c (Write t l))) t.0 l.0
   write_move t l local cause =
       taken (after w s n c (Write t l)) t.0 l.0 local cause.1 (lock_named w s c.0 t.0 (op.Write l) ready.fits cause.0 l (λ d e. inr e)) (write_locks w s n c t l).are
       (no_wait (thread_of s t.0).place (runs_away s c.0 t.0 cause.0.runs))
       (quiet_waits (step_of w s n c (Write t l)) s (after w s n c (Write t l)) (steps w s n c ready (Write t l) cause) tt tt)
-      (write_numbers t l) (write_looped t l) (after_walks w s n c (Write t l) refl (cause_walks w s c.0 (Write t l) refl cause))
-      (seen_eff None s (after w s n c (Write t l)) (after_but w s n c (Write t l)) tt (write_numbers t l))
+      (numbers_same w s n c (Write t l) refl) (looped_same w s n c (Write t l) refl) (after_walks w s n c (Write t l) refl (cause_walks w s c.0 (Write t l) refl cause))
+      (seen_eff None s (after w s n c (Write t l)) (after_but w s n c (Write t l)) tt (numbers_same w s n c (Write t l) refl))
 
   -- A hold of a lock is given up: that of its owner, or one of readers'.
 
@@ -201,10 +185,6 @@ module _ (w : Work) (s : State) (n : ℕ) (c : CpuId) (ready : IsReady w s) wher
   unfolding after effect drop_ageing set_duty
   exit_numbers t l here = record { put = (exited_numbers w (drop_ageing s c.0 (Exit t l)) c t.0 l here).put }
 
-  exit_looped : (t : ThreadId) (l : LockId) → Same looped_part s (after w s n c (Exit t l))
-  unfolding after effect
-  exit_looped t l = then_same looped_part s (drop_ageing s c.0 (Exit t l)) _ (dropped_same looped_part s c.0 (Exit t l)) (exited_looped w _ c t.0 l)
-
   exit_left : (t : ThreadId) (l : LockId) → c.0 < length s.cpus → lock_of s l.0 ≢ Free → Left (after w s n c (Exit t l)) l.0
   unfolding drop_ageing set_duty
   exit_left t l here busy = left_of (drop_ageing s c.0 (Exit t l)) (after w s n c (Exit t l)) l (lock_of s l.0) refl refl busy (exit_outcome w s n c t l here)
@@ -216,7 +196,7 @@ module _ (w : Work) (s : State) (n : ℕ) (c : CpuId) (ready : IsReady w s) wher
       let numbers = exit_numbers t l inside in
       given_up (after w s n c (Exit t l)) t.0 l local holds (no_wait (thread_of s t.0).place (runs_away s c.0 t.0 cause.runs))
       (quiet_waits (step_of w s n c (Exit t l)) s (after w s n c (Exit t l)) (steps w s n c ready (Exit t l) cause) tt tt)
-      numbers (exit_looped t l) (after_walks w s n c (Exit t l) refl (cause_walks w s c.0 (Exit t l) refl cause))
+      numbers (looped_same w s n c (Exit t l) refl) (after_walks w s n c (Exit t l) refl (cause_walks w s c.0 (Exit t l) refl cause))
       (seen_eff_but None s (after w s n c (Exit t l)) t.0 _ (after_but w s n c (Exit t l)) tt numbers
       (away_after (step_of w s n c (Exit t l)) s (after w s n c (Exit t l)) t.0 (steps w s n c ready (Exit t l) cause) tt (runs_away s c.0 t.0 cause.runs)))
       (lock_inside s l.0 (held_busy t.0 l.0 holds)) (exit_left t l here (held_busy t.0 l.0 holds))
@@ -224,10 +204,6 @@ module _ (w : Work) (s : State) (n : ℕ) (c : CpuId) (ready : IsReady w s) wher
   cv_wait_numbers : (t : ThreadId) (k : ChanId) (l : LockId) → t.0 < length s.threads → Goes numbers_part s (after w s n c (CvWait t k l)) t.0 (without_number l (thread_of s t.0).body.willed.items)
   unfolding after effect drop_ageing set_duty
   cv_wait_numbers t k l here = record { put = (cv_waited_numbers w (drop_ageing s c.0 (CvWait t k l)) n c t.0 k l here).put }
-
-  cv_wait_looped : (t : ThreadId) (k : ChanId) (l : LockId) → Same looped_part s (after w s n c (CvWait t k l))
-  unfolding after effect
-  cv_wait_looped t k l = then_same looped_part s (drop_ageing s c.0 (CvWait t k l)) _ (dropped_same looped_part s c.0 (CvWait t k l)) (cv_waited_looped w _ n c t.0 k l)
 
   cv_wait_left : (t : ThreadId) (k : ChanId) (l : LockId) → c.0 < length s.cpus → lock_of s l.0 ≢ Free → Left (after w s n c (CvWait t k l)) l.0
   unfolding drop_ageing set_duty
@@ -240,7 +216,7 @@ module _ (w : Work) (s : State) (n : ℕ) (c : CpuId) (ready : IsReady w s) wher
       let numbers = cv_wait_numbers t k l inside in
       given_up (after w s n c (CvWait t k l)) t.0 l local holds (no_wait (thread_of s t.0).place (runs_away s c.0 t.0 cause.runs))
       (quiet_waits (step_of w s n c (CvWait t k l)) s (after w s n c (CvWait t k l)) (steps w s n c ready (CvWait t k l) cause) refl (mover_of w s n c (CvWait t k l) refl ready.fits ready.agreed cause))
-      numbers (cv_wait_looped t k l) (after_walks w s n c (CvWait t k l) refl (cause_walks w s c.0 (CvWait t k l) refl cause))
+      numbers (looped_same w s n c (CvWait t k l) refl) (after_walks w s n c (CvWait t k l) refl (cause_walks w s c.0 (CvWait t k l) refl cause))
       (seen_eff_but None s (after w s n c (CvWait t k l)) t.0 _ (after_but w s n c (CvWait t k l)) tt numbers
       (away_after (step_of w s n c (CvWait t k l)) s (after w s n c (CvWait t k l)) t.0 (steps w s n c ready (CvWait t k l) cause) refl (runs_away s c.0 t.0 cause.runs)))
       (lock_inside s l.0 (held_busy t.0 l.0 holds)) (cv_wait_left t k l here (held_busy t.0 l.0 holds))
@@ -279,9 +255,9 @@ module _ (w : Work) (s : State) (n : ℕ) (c : CpuId) (ready : IsReady w s) wher
       let r : State = after w s n c (Unblock l u at) in
       let free : owner_of (lock_of s l.0) ≡ None = passed_unowned w s n c ready (record { lock = l.0; alone = true }) (ap pass_of cause.0) in
       let moves : Stepped (Go u.0 (place_put w n u.0 at)) s r = steps w s n c ready (Unblock l u at) cause in
-      let numbers : Same numbers_part s r = plain_same numbers_part numbers_moves numbers_ops w s n c (Unblock l u at) refl in
+      let numbers : Same numbers_part s r = numbers_same w s n c (Unblock l u at) refl in
       left_alone r l Writer u.0 cause.1 free (leaves_waits u.0 (place_put w n u.0 at) s r moves (put_no_waiter w n u.0 at)) (unblock_owners l u at here free)
-      numbers (plain_same looped_part looped_moves looped_ops w s n c (Unblock l u at) refl) (after_walks w s n c (Unblock l u at) refl (cause_walks w s c.0 (Unblock l u at) refl cause))
+      numbers (looped_same w s n c (Unblock l u at) refl) (after_walks w s n c (Unblock l u at) refl (cause_walks w s c.0 (Unblock l u at) refl cause))
       (seen_eff (Some u.0) s r (after_but w s n c (Unblock l u at)) (ap is_waiter moves.at ∙ put_no_waiter w n u.0 at) numbers)
 
   -- what a grant does is said by the duty
@@ -296,10 +272,7 @@ module _ (w : Work) (s : State) (n : ℕ) (c : CpuId) (ready : IsReady w s) wher
       ap (λ d. granted w (drop_ageing s c.0 (Grant l u at)) n c l u.0 at d) ((drop_duties s c.0 (Grant l u at) (ap (λ d. dropped_duty (Grant l u at) d) is ∙ sym is)).each c.0 ∙ is)
 
   reader_numbers : (l : LockId) (u : ThreadId) (at : Put) → Same numbers_part s (granted_to_reader w (drop_ageing s c.0 (Grant l u at)) n l u.0 at)
-  reader_numbers l u at = then_same numbers_part s (drop_ageing s c.0 (Grant l u at)) _ (dropped_same numbers_part s c.0 (Grant l u at)) (granted_to_reader_numbers w _ n l u.0 at)
-
-  reader_looped : (l : LockId) (u : ThreadId) (at : Put) → Same looped_part s (granted_to_reader w (drop_ageing s c.0 (Grant l u at)) n l u.0 at)
-  reader_looped l u at = then_same looped_part s (drop_ageing s c.0 (Grant l u at)) _ (dropped_same looped_part s c.0 (Grant l u at)) (granted_to_reader_looped w _ n l u.0 at)
+  reader_numbers l u at = then_same numbers_part s (drop_ageing s c.0 (Grant l u at)) _ (dropped_same numbers_part s c.0 (Grant l u at)) (granted_to_reader_numbers w _ n c l u.0 at)
 
   reader_walks : (l : LockId) (u : ThreadId) (at : Put) → Walks s (granted_to_reader w (drop_ageing s c.0 (Grant l u at)) n l u.0 at)
   reader_walks l u at = C.then_kept walk_part s (drop_ageing s c.0 (Grant l u at)) _ (drop_walks s c.0 (Grant l u at)) (C.granted_to_reader_kept walk_part walk_marks w _ n l u.0 at)
@@ -324,16 +297,13 @@ module _ (w : Work) (s : State) (n : ℕ) (c : CpuId) (ready : IsReady w s) wher
       let moves : Stepped (Go u.0 (place_put w n u.0 at)) s r = steps w s n c ready (Grant l u at) cause in
       let numbers : Same numbers_part s r = subst (λ (q : State). Same numbers_part s q) is (reader_numbers l u at) in
       left_alone r l Reader u.0 best free (leaves_waits u.0 (place_put w n u.0 at) s r moves (put_no_waiter w n u.0 at)) (subst (λ (q : State). IsSame (graph s).owner (graph q).owner) is (reader_owners l u at))
-      numbers (subst (λ (q : State). Same looped_part s q) is (reader_looped l u at)) (subst (λ (q : State). Walks s q) is (reader_walks l u at))
+      numbers (looped_same w s n c (Grant l u at) refl) (subst (λ (q : State). Walks s q) is (reader_walks l u at))
       (seen_eff (Some u.0) s r (after_but w s n c (Grant l u at)) (ap is_waiter moves.at ∙ put_no_waiter w n u.0 at) numbers)
 
   writer_numbers : (l : LockId) (u : ThreadId) (at : Put) → u.0 < length s.threads
       → Goes numbers_part s (granted_to_writer w (drop_ageing s c.0 (Grant l u at)) n c l u.0 at) u.0 (changed_number l (others_waiting s l u.0) (thread_of s u.0).body.willed.items)
   unfolding drop_ageing set_duty
   writer_numbers l u at here = record { put = (granted_to_writer_numbers w (drop_ageing s c.0 (Grant l u at)) n c l u.0 at here).put }
-
-  writer_looped : (l : LockId) (u : ThreadId) (at : Put) → Same looped_part s (granted_to_writer w (drop_ageing s c.0 (Grant l u at)) n c l u.0 at)
-  writer_looped l u at = then_same looped_part s (drop_ageing s c.0 (Grant l u at)) _ (dropped_same looped_part s c.0 (Grant l u at)) (granted_to_writer_looped w _ n c l u.0 at)
 
   writer_walks : (l : LockId) (u : ThreadId) (at : Put) → c.0 < length s.cpus → walk_of (cpu_of s c.0).duty ≡ None → Walks s (granted_to_writer w (drop_ageing s c.0 (Grant l u at)) n c l u.0 at)
   writer_walks l u at here free =
@@ -383,7 +353,7 @@ module _ (w : Work) (s : State) (n : ℕ) (c : CpuId) (ready : IsReady w s) wher
         waited = waits_there l Writer u.0 best;
         exact = subst (G.IsExact (graph r) l.0) (sym (its_willed s r u.0 l (others_waiting s l u.0) numbers)) (others_exact r l u.0 inside waits kept);
         willed = other_willed s r u.0 l (others_waiting s l u.0) numbers;
-        looped = (subst (λ (q : State). Same looped_part s q) is (writer_looped l u at)).each;
+        looped = (looped_same w s n c (Grant l u at) refl).each;
         walks = (subst (λ (q : State). Walks s q) is (writer_walks l u at here (ap walk_of grants))).each;
         eff = kept;
       }

@@ -34,8 +34,7 @@ use Rattle.sd_invariants.specs.Laws.{HoldsWhenReached, OpenHold, is_in, IsRising
 use Rattle.sd_frames.proofs.Parts.{put_item}
 use Rattle.sd_frames.proofs.CpuWords as C
 use Rattle.sd_frames.proofs.FieldWords as F
-use Rattle.sd_frames.proofs.PlainWords.{drop_keeps}
-use Rattle.sd_invariants.proofs.OpenLemmas.{place_part, place_marks, places_plain, SamePlaces, cpus_same, open_field, finish_open, open_same, other_place, in_later, range_rises}
+use Rattle.sd_invariants.proofs.OpenLemmas.{place_part, place_marks, drop_places, SamePlaces, cpus_same, open_field, finish_open, open_same, other_place, in_later, range_rises}
 use Rattle.sd_invariants.proofs.Whole.{reached_whole}
 use Rattle.sd_invariants.specs.There.{IsSetThere}
 use Rattle.sd_invariants.proofs.Induction.{held_reached}
@@ -174,11 +173,11 @@ joined_listed w s c to inside there lists listed = join_listed w s c to inside t
 
 drop_listed : (w : Work) (s : State) (c : ℕ) (e : Event) → AreListed w s → AreListed w (drop_ageing s c e)
 unfolding drop_ageing set_duty
-drop_listed w s c e listed = same_listed w s (drop_ageing s c e) (drop_keeps place_part places_plain s c e) refl listed
+drop_listed w s c e listed = same_listed w s (drop_ageing s c e) (drop_places s c e) refl listed
 
 drop_lists : (s : State) (c : ℕ) (e : Event) → HaveLists s → HaveLists (drop_ageing s c e)
 unfolding drop_ageing set_duty
-drop_lists s c e lists d = subst (λ (p : SetId). p.0 < length s.open_cpus) (sym (ap (λ (x : SetId × Option SetId). x.0) ((drop_keeps place_part places_plain s c e).each d))) (lists d)
+drop_lists s c e lists d = subst (λ (p : SetId). p.0 < length s.open_cpus) (sym (ap (λ (x : SetId × Option SetId). x.0) ((drop_places s c e).each d))) (lists d)
 
 drop_cpus : (s : State) (c : ℕ) (e : Event) (d : ℕ) → d < length s.cpus → d < length (drop_ageing s c e).cpus
 unfolding drop_ageing set_duty

@@ -6,10 +6,9 @@ use Rattle.sd_basics.proofs.Truths.{and_left}
 use Rattle.sd_types.specs.declared.numbers.CpuId.{CpuId}
 use Rattle.sd_types.specs.declared.numbers.LockId.{LockId}
 use Rattle.sd_types.specs.declared.numbers.ThreadId.{ThreadId}
-use Rattle.sd_types.specs.declared.events.BindAnswer.{BindAnswer}
 use Rattle.sd_types.specs.declared.events.Duty.TheVariants as duty
 use Rattle.sd_types.specs.declared.events.Event.{Event}
-use Rattle.sd_types.specs.declared.events.Event.TheVariants.{Tick, Spin, Preempt, Napend, Wake, Rouse, Read, Unblock, Grant, Passed, Age, Prio, SemaVWake, Bind}
+use Rattle.sd_types.specs.declared.events.Event.TheVariants.{Tick, Spin, Preempt, Napend, Wake, Rouse, Read, Unblock, Grant, Passed, Age, Prio, SemaVWake}
 use Rattle.sd_types.specs.declared.works.Work.{Work}
 use Rattle.sd_types.specs.Willed.{Numbers}
 use Rattle.sd_machine.specs.Graphs as G
@@ -23,14 +22,14 @@ use Rattle.sd_machine.specs.Threads.{lock_of, is_ts, runner}
 use Rattle.sd_machine.specs.Changes.{set_duty}
 use Rattle.sd_machine.specs.Locking.{one_more}
 use Rattle.sd_machine.specs.LockGraph.{wait_of, owner_of, graph}
-use Rattle.sd_machine.specs.Events.{drop_ageing, effect, after}
+use Rattle.sd_machine.specs.Events.{drop_ageing, after}
 use Rattle.sd_frames.specs.Causes.{IsCause}
 use Rattle.sd_frames.specs.Passing.{pass_of}
 use Rattle.sd_invariants.specs.Holding.{lock_state}
 use Rattle.sd_frames.specs.Moves.{Step, step_of}
 use Rattle.sd_invariants.proofs.AgreedAfter.{IsReady, read_locks}
 use Rattle.sd_frames.proofs.Found.{runner_found, age_found}
-use Rattle.sd_frames.proofs.HoldTable.{numbers_part, numbers_moves, numbers_ops, looped_part, looped_moves, looped_ops, Goes, read_numbers, read_looped, pbound_numbers, pbound_looped}
+use Rattle.sd_frames.proofs.HoldTable.{numbers_part, leaves_numbers, numbers_same, looped_part, leaves_looped, looped_same, Goes}
 use Rattle.sd_frames.proofs.LockTable.{is_lockless, quiet_locks}
 use Rattle.sd_invariants.proofs.Movers.{ends_wait, mover_of, mover_there, queued_away}
 use Rattle.sd_frames.proofs.PassLemmas.{Passed as WasPassed, pass_outcome}
@@ -39,9 +38,9 @@ use Rattle.sd_frames.proofs.PlaceTable.{Stepped, step_needs, after_steps}
 use Rattle.sd_machine.specs.Accounts.{is_block}
 use Rattle.sd_machine.proofs.PlaceLemmas.{is_waiter}
 use Rattle.sd_invariants.proofs.ScriptLemmas.{runs_no_waiter, StepAway, step_away, away_after}
-use Rattle.sd_frames.proofs.Words.{Same, then_same, is_plain, plain_same}
+use Rattle.sd_frames.proofs.Words.{Same}
+use Rattle.sd_frames.proofs.ThreadParts.{makes_only}
 use Rattle.sd_laws.proofs.ClassThreads.{But, class_thread, after_but}
-use Rattle.sd_laws.proofs.Fields.{dropped_same}
 use Rattle.sd_laws.proofs.Views.{away_waits, quiet_waits, same_owners, kept_owners, same_willed, same_eff}
 use Rattle.sd_laws.proofs.WalkTable.{Walks, keeps_walks, after_walks, is_walking, cause_walks}
 
@@ -117,36 +116,15 @@ module _ (w : Work) (s : State) (n : ℕ) (c : CpuId) (ready : IsReady w s) wher
     eff = seen_eff (class_thread e) s (after w s n c e) (after_but w s n c e) (class_away_after e quiet stays cause) numbers;
   }
 
-  -- an event that is none of locks and of bindings
-  pub plain_move : (e : Event) → spares_waiters e ≡ true → is_block e ≡ false → ends_wait e ≡ false → is_lockless e ≡ true → is_plain e ≡ true → keeps_walks e ≡ true → is_walking e ≡ false → IsCause w s c.0 e
+  -- an event that is none of locks
+  pub plain_move : (e : Event) → spares_waiters e ≡ true → is_block e ≡ false → ends_wait e ≡ false → is_lockless e ≡ true → makes_only leaves_numbers e ≡ true → makes_only leaves_looped e ≡ true → keeps_walks e ≡ true → is_walking e ≡ false → IsCause w s c.0 e
       → IsQuiet (graph s) (graph (after w s n c e))
-  plain_move e quiet stays going lockless plain keeps free cause = quiet_by e quiet stays going cause
+  plain_move e quiet stays going lockless numbers looped keeps free cause = quiet_by e quiet stays going cause
       (same_owners s (after w s n c e) (quiet_locks w s n c e lockless))
-      (plain_same numbers_part numbers_moves numbers_ops w s n c e plain) (plain_same looped_part looped_moves looped_ops w s n c e plain)
+      (numbers_same w s n c e numbers) (looped_same w s n c e looped)
       (after_walks w s n c e keeps (cause_walks w s c.0 e free cause))
 
-  bind_numbers : (t u : ThreadId) (d : Option CpuId) (answer : BindAnswer) → Same numbers_part s (after w s n c (Bind t u d answer))
-  unfolding after effect
-  bind_numbers t u d answer = then_same numbers_part s (drop_ageing s c.0 (Bind t u d answer)) _ (dropped_same numbers_part s c.0 (Bind t u d answer)) (pbound_numbers w _ n t.0 u.0 d answer)
-
-  bind_looped : (t u : ThreadId) (d : Option CpuId) (answer : BindAnswer) → Same looped_part s (after w s n c (Bind t u d answer))
-  unfolding after effect
-  bind_looped t u d answer = then_same looped_part s (drop_ageing s c.0 (Bind t u d answer)) _ (dropped_same looped_part s c.0 (Bind t u d answer)) (pbound_looped w _ n t.0 u.0 d answer)
-
-  pub bind_move : (t u : ThreadId) (d : Option CpuId) (answer : BindAnswer) → IsCause w s c.0 (Bind t u d answer) → IsQuiet (graph s) (graph (after w s n c (Bind t u d answer)))
-  bind_move t u d answer cause = quiet_by (Bind t u d answer) refl refl refl cause
-      (same_owners s (after w s n c (Bind t u d answer)) (quiet_locks w s n c (Bind t u d answer) refl)) (bind_numbers t u d answer) (bind_looped t u d answer)
-      (after_walks w s n c (Bind t u d answer) refl (cause_walks w s c.0 (Bind t u d answer) refl cause))
-
   -- A lock is read: it was free or readers held it.
-
-  read_numbers_same : (t : ThreadId) (l : LockId) → Same numbers_part s (after w s n c (Read t l))
-  unfolding after effect
-  read_numbers_same t l = then_same numbers_part s (drop_ageing s c.0 (Read t l)) _ (dropped_same numbers_part s c.0 (Read t l)) (read_numbers w _ t.0 l)
-
-  read_looped_same : (t : ThreadId) (l : LockId) → Same looped_part s (after w s n c (Read t l))
-  unfolding after effect
-  read_looped_same t l = then_same looped_part s (drop_ageing s c.0 (Read t l)) _ (dropped_same looped_part s c.0 (Read t l)) (read_looped w _ t.0 l)
 
   one_more_unowned : (x : LockState) → owner_of (one_more x) ≡ None
   one_more_unowned Free = refl
@@ -157,7 +135,7 @@ module _ (w : Work) (s : State) (n : ℕ) (c : CpuId) (ready : IsReady w s) wher
   pub read_move : (t : ThreadId) (l : LockId) → IsCause w s c.0 (Read t l) → IsQuiet (graph s) (graph (after w s n c (Read t l)))
   read_move t l cause = quiet_by (Read t l) refl refl refl cause
       (kept_owners s (after w s n c (Read t l)) l.0 (one_more (lock_of s l.0)) (read_locks w s n c t l).are (one_more_unowned (lock_of s l.0) ∙ sym unowned))
-      (read_numbers_same t l) (read_looped_same t l)
+      (numbers_same w s n c (Read t l) refl) (looped_same w s n c (Read t l) refl)
       (after_walks w s n c (Read t l) refl (cause_walks w s c.0 (Read t l) refl cause))
     where
       unowned : owner_of (lock_of s l.0) ≡ None
@@ -202,5 +180,5 @@ module _ (w : Work) (s : State) (n : ℕ) (c : CpuId) (ready : IsReady w s) wher
 
   pub passed_move : (l : LockId) → c.0 < length s.cpus → IsCause w s c.0 (Passed l) → IsQuiet (graph s) (graph (after w s n c (Passed l)))
   passed_move l here cause = quiet_by (Passed l) refl refl refl cause (passed_owners l here cause.0)
-      (plain_same numbers_part numbers_moves numbers_ops w s n c (Passed l) refl) (plain_same looped_part looped_moves looped_ops w s n c (Passed l) refl)
+      (numbers_same w s n c (Passed l) refl) (looped_same w s n c (Passed l) refl)
       (after_walks w s n c (Passed l) refl (cause_walks w s c.0 (Passed l) refl cause))

@@ -1,7 +1,7 @@
 -- What holds of every duty that wakes nobody, and of each duty to wake sleepers where it begins, holds of every duty; so only
 -- sleepers on channels that are no semaphores are woken by such a duty.
 use Rattle.std.proofs.Common.{◌≡◌, ℕ, zero, suc, ◌+◌, ◌-◌, ◌%◌, Bool, true, false, ◌||◌, ◌&&◌, List, [], ◌∷◌, length, get_or, Option, Some, None, refl, sym, subst, inl, inr}
-use Rattle.std.specs.Prelude.{⊤, ℤ, if◌then◌else◌, is_none, is_some, int_lt, nat_lt, nat_le, ◌==◌, map, Result, Ok, Err}
+use Rattle.std.specs.Prelude.{⊤, ℤ, if◌then◌else◌, is_some, int_lt, nat_lt, nat_le, ◌==◌, map, Result, Ok, Err}
 use Rattle.std.specs.Ordering.{int_eq}
 use Rattle.std.specs.List.{range_with_len}
 use Rattle.std.proofs.lemmas.Bool.{cases_lt}
@@ -16,8 +16,7 @@ use Rattle.sd_types.specs.declared.events.Denied.{Denied}
 use Rattle.sd_types.specs.declared.events.Duty.{Duty}
 use Rattle.sd_types.specs.declared.events.Duty.TheVariants as duty
 use Rattle.sd_types.specs.declared.events.Event.{Event}
-use Rattle.sd_types.specs.declared.events.Event.TheVariants.{Tick, Spin, Idle, Wakeall, Rouse, Block, Will, End as WalkEnd, Exit, Unblock, Grant, Passed, Age, Prio, CvWait, Assign, Joined, Bind}
-use Rattle.sd_types.specs.declared.events.PrioAnswer.{PrioAnswer}
+use Rattle.sd_types.specs.declared.events.Event.TheVariants.{Wakeall}
 use Rattle.sd_types.specs.declared.events.PrioAnswer.TheVariants.{Changed, Refused}
 use Rattle.sd_types.specs.declared.events.Put.{Put}
 use Rattle.sd_types.specs.declared.scripts.Op.{Op}
@@ -34,27 +33,26 @@ use Rattle.sd_state.specs.declared.states.State.{State}
 use Rattle.sd_state.specs.States.{no_cpu, thread_of, cpu_of, with_cpu, eff_of}
 use Rattle.sd_state.specs.Operations.{op_of}
 use Rattle.sd_state.specs.Opening.{first_cpu_state, opening}
-use Rattle.sd_machine.specs.Threads.{thread_id, lock_of, with_lock, best_waiter, best_sleeper, best_sleeper_below, priority_of, has_waiters, greatest_waiting}
+use Rattle.sd_machine.specs.Threads.{thread_id, lock_of, with_lock, best_waiter, best_sleeper_below, priority_of, has_waiters, greatest_waiting}
 use Rattle.sd_machine.specs.Bodies.{aged_class}
-use Rattle.sd_machine.specs.Changes.{back_key, finish_op, run_tick, set_class, hold, set_number, set_looped, set_duty, duty_after, counted, count_tick, leave}
-use Rattle.sd_machine.specs.Dispatching.{class_counts, ticked, spun, idled}
-use Rattle.sd_machine.specs.Sleeping.{woken, woke_all, roused_on, rouse_key, roused}
-use Rattle.sd_machine.specs.Locking.{kind_of, side_of, writer_first, after_reader, after_owner, free_or_passed, release_from, exited, blocked, others_waiting, unblocked_on, unblocked, granted_to_writer, granted, passed_on, passed}
+use Rattle.sd_machine.specs.Changes.{back_key, finish_op, set_class, hold, set_number, set_looped, set_duty, duty_after, counted, count_tick}
+use Rattle.sd_machine.specs.Sleeping.{woken, roused_on, rouse_key, roused}
+use Rattle.sd_machine.specs.Locking.{kind_of, writer_first, after_reader, after_owner, free_or_passed, release_from, others_waiting, unblocked_on, granted_to_writer, granted, passed_on, passed}
 use Rattle.sd_machine.specs.Requeueing.{reordered}
-use Rattle.sd_machine.specs.Walking.{is_back, next_walk, walked, willed, walk_ended}
-use Rattle.sd_machine.specs.Prioritising.{answer_to, new_class, walk_from, changed_by, changed_on, reprioritised, lifted, aged}
-use Rattle.sd_machine.specs.Conditions.{cv_waited}
+use Rattle.sd_machine.specs.Walking.{is_back, next_walk, walked, willed}
+use Rattle.sd_machine.specs.Prioritising.{answer_to, new_class, walk_from, changed_by, changed_on, lifted, aged}
 use Rattle.sd_machine.specs.Events.{keeps_ageing, dropped_duty, drop_ageing, effect, after}
 use Rattle.sd_frames.specs.Causes.{IsCause}
 use Rattle.sd_invariants.specs.Laws.{HoldsWhenReached}
 use Rattle.sd_frames.proofs.CpuWords as C
 use Rattle.sd_frames.proofs.LockTable as T
-use Rattle.sd_frames.proofs.LockTable.{duty_part, duty_marks}
+use Rattle.sd_frames.proofs.LockTable.{duty_part, duty_marks, leaves_duty, duty_left}
 use Rattle.sd_frames.proofs.Parts.{put_item}
 use Rattle.sd_invariants.proofs.Ready.{kept_reached}
 use Rattle.sd_invariants.proofs.Works.{op_named}
 use Rattle.sd_laws.specs.HistoryLaws.{chan_kind}
-use Rattle.sd_frames.proofs.SetDuties.{joined_duties, assigned_duties, pbound_duties}
+use Rattle.sd_machine.specs.Deeds.{Deed, CountsTick, OrdersWake, Rouses, BeginsWalk, WalksOn, EndsDuty, FreesLock, FreesLast, GrantsLock, PassesLock, Lifts, Reclasses, did, deeds}
+use Rattle.sd_machine.proofs.DeedLemmas.{AllAlong, effect_did, keeps_along, quiet_along}
 
 -- a duty to wake sleepers
 abbrev is_rousing : Duty → Bool
@@ -95,30 +93,11 @@ module _ (Q : Duty → Type 0) (plain : (d : Duty) → is_rousing d ≡ false �
   unfolding count_tick
   count_tick_hold w s c h = written s c (counted w (cpu_of s c)) (after_tick w ((cpu_of s c).count + 1) (cpu_of s c).duty (h c)) h
 
-  class_counts_hold : (w : Work) (s : State) (c t : ℕ) → Hold s → Hold (class_counts w s c t)
-  class_counts_hold w s c t h = kept s _ (C.class_counts_kept duty_part duty_marks w s c t) h
-
-  ticked_hold : (w : Work) (s : State) (c t : ℕ) → Hold s → Hold (ticked w s c t)
-  unfolding ticked
-  ticked_hold w s c t h = class_counts_hold w (run_tick w (count_tick w s c) t) c t (kept (count_tick w s c) _ (C.run_tick_kept duty_part duty_marks w _ t) (count_tick_hold w s c h))
-
-  spun_hold : (w : Work) (s : State) (c t : ℕ) → Hold s → Hold (spun w s c t)
-  unfolding spun
-  spun_hold w s c t h = class_counts_hold w (count_tick w s c) c t (count_tick_hold w s c h)
-
-  idled_hold : (w : Work) (s : State) (c : ℕ) → Hold s → Hold (idled w s c)
-  unfolding idled
-  idled_hold w s c h = count_tick_hold w s c h
-
   -- Sleepers.
 
-  woke_all_hold : (w : Work) (s : State) (n : ℕ) (c : CpuId) (t : ℕ) (k : ChanId) → Q (duty.Rouse k (back_key n)) → Hold s → Hold (woke_all w s n c t k)
-  unfolding woke_all
-  woke_all_hold w s n c t k is h = kept (if is_none (best_sleeper s k.0) then s else set_duty s c.0 (duty.Rouse k (back_key n))) _ (C.finish_op_kept duty_part duty_marks w _ t) (by (is_none (best_sleeper s k.0)))
-    where
-      by : (b : Bool) → Hold (if b then s else set_duty s c.0 (duty.Rouse k (back_key n)))
-      by true = h
-      by false = set_to s c.0 (duty.Rouse k (back_key n)) is h
+  orders_hold : (s : State) (n : ℕ) (c : CpuId) (k : ChanId) (b : Bool) → Q (duty.Rouse k (back_key n)) → Hold s → Hold (if b then s else set_duty s c.0 (duty.Rouse k (back_key n)))
+  orders_hold s n c k true is h = h
+  orders_hold s n c k false is h = set_to s c.0 (duty.Rouse k (back_key n)) is h
 
   roused_hold : (w : Work) (s : State) (n : ℕ) (c : CpuId) (k : ChanId) (u : Option (ThreadId × Put)) (d : Duty) → Hold s → Hold (roused w s n c k u d)
   unfolding roused
@@ -174,20 +153,6 @@ module _ (Q : Duty → Type 0) (plain : (d : Duty) → is_rousing d ≡ false �
   changed_on_hold w s n c t u at (Some (op.Prio v r)) h = changed_by_hold w s n c u at (answer_to w s t u.0 r) h
   changed_on_hold w s n c t u at _ h = h
 
-  reprioritised_hold : (w : Work) (s : State) (n : ℕ) (c : CpuId) (t : ℕ) (u : ThreadId) (answer : PrioAnswer) → Hold s → Hold (reprioritised w s n c t u answer)
-  unfolding reprioritised
-  reprioritised_hold w s n c t u (Changed p at) h = kept (changed_on w s n c t u at (op_of w t (thread_of s t).body)) _ (C.finish_op_kept duty_part duty_marks w _ t) (changed_on_hold w s n c t u at (op_of w t (thread_of s t).body) h)
-  reprioritised_hold w s n c t u (Refused d) h = kept s _ (C.finish_op_kept duty_part duty_marks w s t) h
-
-  blocked_hold : (w : Work) (s : State) (n : ℕ) (c : CpuId) (t : ℕ) (l : LockId) → Hold s → Hold (blocked w s n c t l)
-  unfolding blocked
-  blocked_hold w s n c t l h =
-      set_plain (leave s c.0 t (Waiting l (side_of (op_of w t (thread_of s t).body)) (back_key n))) c.0 (duty.Walk l (thread_id t) (back_key n)) refl (kept s _ (C.leave_kept duty_part duty_marks s c.0 t _) h)
-
-  walk_ended_hold : (s : State) (c : CpuId) → Hold s → Hold (walk_ended s c)
-  unfolding walk_ended
-  walk_ended_hold s c h = set_plain s c.0 duty.Nothing refl h
-
   aged_hold : (w : Work) (s : State) (n : ℕ) (c : CpuId) (t : ℕ) → Hold s → Hold (aged w s n c t)
   unfolding aged
   aged_hold w s n c t h =
@@ -224,19 +189,9 @@ module _ (Q : Duty → Type 0) (plain : (d : Duty) → is_rousing d ≡ false �
       by false = h
   release_hold w s c l (Passing d r) h = h
 
-  exited_hold : (w : Work) (s : State) (c : CpuId) (t : ℕ) (l : LockId) → Hold s → Hold (exited w s c t l)
-  exited_hold w s c t l h = kept (release_from w s c l (lock_of s l.0)) _ (T.exited_duties w s c t l) (release_hold w s c l (lock_of s l.0) h)
-
-  cv_waited_hold : (w : Work) (s : State) (n : ℕ) (c : CpuId) (t : ℕ) (k : ChanId) (l : LockId) → Hold s → Hold (cv_waited w s n c t k l)
-  cv_waited_hold w s n c t k l h = kept (release_from w s c l (lock_of s l.0)) _ (T.cv_waited_duties w s n c t k l) (release_hold w s c l (lock_of s l.0) h)
-
-  unblocked_hold : (w : Work) (s : State) (n : ℕ) (c : CpuId) (l : LockId) (u : ℕ) (at : Put) → Hold s → Hold (unblocked w s n c l u at)
-  unfolding unblocked
-  unblocked_hold w s n c l u at h = by (has_waiters (woken w s n u at) l.0) (kept s _ (T.woken_duties w s n u at) h)
-    where
-      by : (b : Bool) → Hold (woken w s n u at) → Hold (unblocked_on (woken w s n u at) c l b)
-      by true g = g
-      by false g = set_plain (with_lock (woken w s n u at) l.0 Free) c.0 duty.Nothing refl g
+  last_hold : (s : State) (c : CpuId) (l : LockId) (b : Bool) → Hold s → Hold (unblocked_on s c l b)
+  last_hold s c l true h = h
+  last_hold s c l false h = set_plain (with_lock s l.0 Free) c.0 duty.Nothing refl h
 
   granted_to_writer_hold : (w : Work) (s : State) (n : ℕ) (c : CpuId) (l : LockId) (u : ℕ) (at : Put) → Hold s → Hold (granted_to_writer w s n c l u at)
   unfolding granted_to_writer
@@ -263,36 +218,30 @@ module _ (Q : Duty → Type 0) (plain : (d : Duty) → is_rousing d ≡ false �
   unfolding passed
   passed_hold s c l h = passed_on_hold s c l (lock_of s l.0) h
 
-  -- Sets and bindings.
+  -- Each deed: a duty to wake sleepers begins by an order alone.
 
-  -- Each event.
-
-  -- what it asks of a duty that begins
-  abbrev Begins : ℕ → Event → Type 0
-  Begins n (Wakeall t k) = Q (duty.Rouse k (back_key n))
+  abbrev Begins : ℕ → Deed → Type 0
+  Begins n (OrdersWake k) = Q (duty.Rouse k (back_key n))
   Begins n _ = ⊤
 
-  effect_hold : (w : Work) (s : State) (n : ℕ) (c : CpuId) (e : Event) → Begins n e → Hold s → Hold (effect w s n c e)
-  unfolding effect
-  effect_hold w s n c (Tick t) begins h = ticked_hold w s c.0 t.0 h
-  effect_hold w s n c (Spin t l) begins h = spun_hold w s c.0 t.0 h
-  effect_hold w s n c Idle begins h = idled_hold w s c.0 h
-  effect_hold w s n c (Wakeall t k) begins h = woke_all_hold w s n c t.0 k begins h
-  effect_hold w s n c (Rouse k u) begins h = roused_hold w s n c k u (cpu_of s c.0).duty h
-  effect_hold w s n c (Block t l) begins h = blocked_hold w s n c t.0 l h
-  effect_hold w s n c (Will l o p at) begins h = willed_hold w s n c l o at h
-  effect_hold w s n c (WalkEnd l) begins h = walk_ended_hold s c h
-  effect_hold w s n c (Exit t l) begins h = exited_hold w s c t.0 l h
-  effect_hold w s n c (Unblock l u at) begins h = unblocked_hold w s n c l u.0 at h
-  effect_hold w s n c (Grant l u at) begins h = granted_hold w s n c l u.0 at (cpu_of s c.0).duty h
-  effect_hold w s n c (Passed l) begins h = passed_hold s c l h
-  effect_hold w s n c (Age t p) begins h = aged_hold w s n c t.0 h
-  effect_hold w s n c (Prio t u answer) begins h = reprioritised_hold w s n c t.0 u answer h
-  effect_hold w s n c (CvWait t k l) begins h = cv_waited_hold w s n c t.0 k l h
-  effect_hold w s n c (Assign t d to answer) begins h = kept s _ (assigned_duties w s t.0 d to answer) h
-  effect_hold w s n c (Joined to) begins h = kept s _ (joined_duties s c to) h
-  effect_hold w s n c (Bind t u d answer) begins h = kept s _ (pbound_duties w s n t.0 u.0 d answer) h
-  effect_hold w s n c e begins h = kept s _ (C.effect_kept duty_part duty_marks w s n c e refl) h
+  deed_hold : (w : Work) (n : ℕ) (c : CpuId) (s : State) (d : Deed) → Begins n d → Hold s → Hold (did w n c s d)
+  deed_hold w n c s CountsTick begins h = count_tick_hold w s c.0 h
+  deed_hold w n c s (OrdersWake k) begins h = orders_hold s n c k _ begins h
+  deed_hold w n c s (Rouses k u) begins h = roused_hold w s n c k u (cpu_of s c.0).duty h
+  deed_hold w n c s (BeginsWalk t l) begins h = set_plain s c.0 (duty.Walk l (thread_id t) (back_key n)) refl h
+  deed_hold w n c s (WalksOn l o at) begins h = willed_hold w s n c l o at h
+  deed_hold w n c s EndsDuty begins h = set_plain s c.0 duty.Nothing refl h
+  deed_hold w n c s (FreesLock l) begins h = release_hold w s c l (lock_of s l.0) h
+  deed_hold w n c s (FreesLast l) begins h = last_hold s c l (has_waiters s l.0) h
+  deed_hold w n c s (GrantsLock l u at) begins h = granted_hold w s n c l u at (cpu_of s c.0).duty h
+  deed_hold w n c s (PassesLock l) begins h = passed_hold s c l h
+  deed_hold w n c s (Lifts t) begins h = aged_hold w s n c t h
+  deed_hold w n c s (Reclasses t u (Changed p at)) begins h = changed_on_hold w s n c t u at (op_of w t (thread_of s t).body) h
+  deed_hold w n c s (Reclasses t u (Refused denied)) begins h = h
+  deed_hold w n c s d begins h = kept s _ (C.deed_left duty_part leaves_duty duty_left w n c s d refl) h
+
+  effect_hold : (w : Work) (s : State) (n : ℕ) (c : CpuId) (e : Event) → AllAlong w n c (λ r d. Begins n d) s (deeds e) → Hold s → Hold (effect w s n c e)
+  effect_hold w s n c e begins h = subst Hold (sym (effect_did w s n c e)) (keeps_along w n c Hold (λ r d. Begins n d) (λ r d asks held. deed_hold w n c r d asks held) s (deeds e) begins h)
 
   dropped_hold : (e : Event) (d : Duty) → Q d → Q (dropped_duty e d)
   dropped_hold e (duty.Age u) is = elim (keeps_ageing e) as (λ b. Q (if b then duty.Age u else duty.Nothing)) [ true ↦ is | false ↦ plain duty.Nothing refl ]
@@ -302,7 +251,7 @@ module _ (Q : Duty → Type 0) (plain : (d : Duty) → is_rousing d ≡ false �
   unfolding drop_ageing
   drop_hold s c e h = set_to s c (dropped_duty e (cpu_of s c).duty) (dropped_hold e (cpu_of s c).duty (h c)) h
 
-  after_hold : (w : Work) (s : State) (n : ℕ) (c : CpuId) (e : Event) → Begins n e → Hold s → Hold (after w s n c e)
+  after_hold : (w : Work) (s : State) (n : ℕ) (c : CpuId) (e : Event) → AllAlong w n c (λ r d. Begins n d) (drop_ageing s c.0 e) (deeds e) → Hold s → Hold (after w s n c e)
   unfolding after
   after_hold w s n c e begins h = effect_hold w (drop_ageing s c.0 e) n c e begins (drop_hold s c.0 e h)
 
@@ -332,12 +281,20 @@ opening_rousing w c = first_duties w (range_with_len 0 w.cpus) c
 pub rouses_chan : (w : Work) (s : State) (c : ℕ) (k : ChanId) (below : ℤ) → RousingChans w s → (cpu_of s c).duty ≡ duty.Rouse k below → is_chan (chan_kind w k.0) ≡ true
 rouses_chan w s c k below h is = subst (RousesChan w) is (h c)
 
-begins_of : (w : Work) (s : State) (n c : ℕ) (e : Event) → IsCause w s c e → Begins (RousesChan w) (plain_rouses w) n e
-begins_of w s n c (Wakeall t k) cause = op_named w t.0 (thread_of s t.0).body.op (op.WakeAll k) cause.stands
-begins_of w s n c _ cause = tt
+abbrev orders_none : Deed → Bool
+orders_none (OrdersWake k) = false
+orders_none _ = true
+
+none_begins : (w : Work) (n : ℕ) (d : Deed) → orders_none d ≡ true → Begins (RousesChan w) (plain_rouses w) n d
+none_begins w n (OrdersWake k) none = cc
+none_begins w n _ none = tt
+
+begins_of : (w : Work) (s r : State) (n : ℕ) (c : CpuId) (e : Event) → IsCause w s c.0 e → AllAlong w n c (λ q d. Begins (RousesChan w) (plain_rouses w) n d) r (deeds e)
+begins_of w s r n c (Wakeall t k) cause = (op_named w t.0 (thread_of s t.0).body.op (op.WakeAll k) cause.stands, (tt, tt))
+begins_of w s r n c e cause = quiet_along w n c (λ q d. Begins (RousesChan w) (plain_rouses w) n d) orders_none (λ q d none. none_begins w n d none) r (deeds e) refl
 
 pub rousing_after : (w : Work) (s : State) (n : ℕ) (c : CpuId) (e : Event) → IsCause w s c.0 e → RousingChans w s → RousingChans w (after w s n c e)
-rousing_after w s n c e cause h = after_hold (RousesChan w) (plain_rouses w) w s n c e (begins_of w s n c.0 e cause) h
+rousing_after w s n c e cause h = after_hold (RousesChan w) (plain_rouses w) w s n c e (begins_of w s (drop_ageing s c.0 e) n c e cause) h
 
 pub rousing_reached : HoldsWhenReached RousingChans
 rousing_reached = kept_reached RousingChans (record { start = opening_rousing; step = λ w s n c e ready cause h. rousing_after w s n c e cause h })

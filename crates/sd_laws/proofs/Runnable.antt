@@ -1,5 +1,5 @@
 -- A thread on a dispatch queue, or that runs, is so after each event that does not stop it.
-use Rattle.std.proofs.Common.{◌≡◌, ◌≢◌, ℕ, ◌&&◌, true, false, Option, Some, None, refl, sym, ap, ◌∙◌, subst, inl, inr, arith}
+use Rattle.std.proofs.Common.{◌≡◌, ◌≢◌, ℕ, ◌&&◌, Bool, true, false, Option, Some, None, refl, sym, ap, ◌∙◌, subst, inl, inr, arith}
 use Rattle.std.specs.Prelude.{⊤, if◌then◌else◌, ◌==◌, is_none, nat_le, ℤ}
 use Rattle.std.proofs.lemmas.Bool.Decides.{nat_tests}
 use Rattle.std.proofs.lemmas.Option.{same_Some}
@@ -9,7 +9,8 @@ use Rattle.sd_types.specs.declared.bodies.ThreadBody.{ThreadBody}
 use Rattle.sd_types.specs.declared.events.BindAnswer.{BindAnswer}
 use Rattle.sd_types.specs.declared.events.BindAnswer.TheVariants as bind_answer
 use Rattle.sd_types.specs.declared.events.Event.{Event}
-use Rattle.sd_types.specs.declared.events.Event.TheVariants.{Dispatch, Steal, Preempt, Yield, Done, Nap, Napend, Sleep, Wake, Rouse, Block, Will, Unblock, Grant, Age, Prio, CvWait, SemaWait, SemaVWake, Move, Bind, Away}
+use Rattle.sd_types.specs.declared.events.Event.TheVariants.{Tick, Napend, Wake, Rouse, Unblock, Grant, SemaVWake}
+use Rattle.sd_machine.specs.Deeds.{Whither, ToQueue, ToSleep, ToWait, ToNap, ToEnd, place_to}
 use Rattle.sd_types.specs.declared.events.PrioAnswer.{PrioAnswer}
 use Rattle.sd_types.specs.declared.events.PrioAnswer.TheVariants.{Changed, Refused}
 use Rattle.sd_types.specs.declared.events.Put.{Put}
@@ -28,7 +29,7 @@ use Rattle.sd_machine.specs.Events.{after}
 use Rattle.sd_machine.specs.Runs.{final}
 use Rattle.sd_frames.specs.Causes.{IsCause}
 use Rattle.sd_invariants.specs.Laws.{woken_by, is_runnable}
-use Rattle.sd_frames.specs.Moves.{Step, put_step_if, woken_step, reordered_step, aged_step, prio_step, bind_step, step_of}
+use Rattle.sd_frames.specs.Moves.{Step, put_step_if, woken_step, reordered_step, aged_step, prio_step, bind_step, step_of, Stride, Comes, Goes, Falls, Leaves, Wakes, WakesAny, Reorders, Rises, Changes, Binds, stride_of, step_by}
 use Rattle.sd_frames.specs.Moves.Step.{Stay, Go}
 use Rattle.sd_invariants.proofs.AgreedAfter.{IsReady}
 use Rattle.sd_invariants.proofs.Movers.{mover_there}
@@ -86,31 +87,38 @@ live_woken u w n (Some v) = λ same. live_put w n v.0.0 v.1
 live_aged : (u : ℕ) (w : Work) (s : State) (n : ℕ) (c : CpuId) (t : ℕ) → IsLiveStep u (aged_step w s n c t)
 live_aged u w s n c t = elim (eff_as (aged_class w (thread_of s t).body.class) (thread_of s t).body == eff_of s t) as (λ b. IsLiveStep u (if b then Stay else Go t (Queued c (back_key n)))) [ true ↦ tt | false ↦ λ same. refl ]
 
+abbrev to_queue : Whither → Bool
+to_queue ToQueue = true
+to_queue _ = false
+
+-- who goes elsewhere than to a queue is stopped
+stops_who_goes : (e : Event) (t : ℕ) (whither : Whither) → stride_of e ≡ Some (Goes t whither) → to_queue whither ≡ false → stopped_by e ≡ Some t
+stops_who_goes (Tick u) t whither is off = cc
+stops_who_goes e t whither is off = cc
+
+live_goes : (u : ℕ) (w : Work) (s : State) (n : ℕ) (c : CpuId) (t : ℕ) (whither : Whither) → (to_queue whither ≡ false → t ≢ u) → IsLiveStep u (Go t (place_to w n c s t whither))
+live_goes u w s n c t ToQueue other = λ same. live_queue w t c _ (thread_of s t).body
+live_goes u w s n c t (ToSleep k) other = λ same. absurd (other refl same)
+live_goes u w s n c t (ToWait l) other = λ same. absurd (other refl same)
+live_goes u w s n c t ToNap other = λ same. absurd (other refl same)
+live_goes u w s n c t ToEnd other = λ same. absurd (other refl same)
+
+live_stride : (u : ℕ) (w : Work) (s : State) (n : ℕ) (c : CpuId) (stride : Option Stride) → ((t : ℕ) (whither : Whither) → stride ≡ Some (Goes t whither) → to_queue whither ≡ false → t ≢ u) → IsLiveStep u (step_by w s n c stride)
+live_stride u w s n c None other = tt
+live_stride u w s n c (Some (Comes t)) other = λ same. refl
+live_stride u w s n c (Some (Goes t whither)) other = live_goes u w s n c t whither (other t whither refl)
+live_stride u w s n c (Some (Falls t end)) other = λ same. live_queue w t c _ (thread_of s t).body
+live_stride u w s n c (Some (Leaves t d)) other = λ same. refl
+live_stride u w s n c (Some (Wakes t at)) other = λ same. live_put w n t at
+live_stride u w s n c (Some (WakesAny v)) other = live_woken u w n v
+live_stride u w s n c (Some (Reorders o at)) other = live_reordered u w n o.0 at (thread_of s o.0).place
+live_stride u w s n c (Some (Rises t)) other = live_aged u w s n c t
+live_stride u w s n c (Some (Changes t v answer)) other = live_prio u w s n v answer
+live_stride u w s n c (Some (Binds v answer)) other = live_bind u w n v answer
+
 -- each event but one that stops u
 pub live_step : (u : ℕ) (w : Work) (s : State) (n : ℕ) (c : CpuId) (e : Event) → stopped_by e ≢ Some u → IsLiveStep u (step_of w s n c e)
-live_step u w s n c (Dispatch t p) goes_on = λ same. refl
-live_step u w s n c (Steal v t p) goes_on = λ same. refl
-live_step u w s n c (Preempt t end) goes_on = λ same. live_queue w t.0 c _ (thread_of s t.0).body
-live_step u w s n c (Away t d) goes_on = λ same. refl
-live_step u w s n c (Yield t) goes_on = λ same. live_queue w t.0 c _ (thread_of s t.0).body
-live_step u w s n c (Done t) goes_on = λ same. absurd (goes_on (ap Some same))
-live_step u w s n c (Nap t) goes_on = λ same. absurd (goes_on (ap Some same))
-live_step u w s n c (Napend t at) goes_on = λ same. live_put w n t.0 at
-live_step u w s n c (Sleep t k) goes_on = λ same. absurd (goes_on (ap Some same))
-live_step u w s n c (Wake t k v) goes_on = live_woken u w n v
-live_step u w s n c (Rouse k v) goes_on = live_woken u w n v
-live_step u w s n c (Block t l) goes_on = λ same. absurd (goes_on (ap Some same))
-live_step u w s n c (Will l o p at) goes_on = live_reordered u w n o.0 at (thread_of s o.0).place
-live_step u w s n c (Unblock l v at) goes_on = λ same. live_put w n v.0 at
-live_step u w s n c (Grant l v at) goes_on = λ same. live_put w n v.0 at
-live_step u w s n c (Age t p) goes_on = live_aged u w s n c t.0
-live_step u w s n c (Prio t v answer) goes_on = live_prio u w s n v answer
-live_step u w s n c (CvWait t k l) goes_on = λ same. absurd (goes_on (ap Some same))
-live_step u w s n c (SemaWait t k) goes_on = λ same. absurd (goes_on (ap Some same))
-live_step u w s n c (SemaVWake t k v at) goes_on = λ same. live_put w n v.0 at
-live_step u w s n c (Move t at) goes_on = λ same. live_put w n t.0 at
-live_step u w s n c (Bind t v d answer) goes_on = live_bind u w n v.0 answer
-live_step u w s n c e goes_on = tt
+live_step u w s n c e goes_on = live_stride u w s n c (stride_of e) (λ t whither is off same. goes_on (stops_who_goes e t whither is off ∙ ap Some same))
 
 live_carried : (w : Work) (u : ℕ) → IsCarried w (λ s. runs_or_is_runnable (thread_of s u).place ≡ true) (λ e. stopped_by e ≢ Some u)
 live_carried w u = record { step = λ s n c e ready cause goes_on before. live_kept u s (after w s n c e) (step_of w s n c e) (live_step u w s n c e goes_on) (steps_after w s n c e ready cause) before }

@@ -13,7 +13,7 @@ use Rattle.sd_types.specs.declared.events.Duty.{Duty}
 use Rattle.sd_types.specs.declared.events.Duty.TheVariants as duty
 use Rattle.sd_types.specs.declared.events.Entry.{Entry}
 use Rattle.sd_types.specs.declared.events.Event.{Event}
-use Rattle.sd_types.specs.declared.events.Event.TheVariants.{Enter, Read, Write, Block, Will, End as WalkEnd, Exit, Unblock, Grant, Passed, Prio, CvWait, Bind}
+use Rattle.sd_types.specs.declared.events.Event.TheVariants.{Enter, Read, Write, Block, Will, End as WalkEnd, Exit, Unblock, Grant, Passed, Prio, CvWait}
 use Rattle.sd_types.specs.declared.events.Hints.{Hints}
 use Rattle.sd_types.specs.declared.works.ThreadDecl.{ThreadDecl}
 use Rattle.sd_types.specs.declared.works.Work.{Work}
@@ -47,7 +47,7 @@ use Rattle.sd_laws.proofs.Exact.{is_eff}
 use Rattle.sd_laws.proofs.LockMoves.{IsGivenUp, IsGiven, block_move, enter_move, write_move, exit_move, cv_wait_move, unblock_move, grant_move}
 use Rattle.sd_laws.proofs.LockMoves.IsGivenUp.{by_owner, by_reader}
 use Rattle.sd_laws.proofs.LockMoves.IsGiven.{as_writer, as_reader}
-use Rattle.sd_laws.proofs.QuietMoves.{plain_move, bind_move, read_move, passed_move}
+use Rattle.sd_laws.proofs.QuietMoves.{plain_move, read_move, passed_move}
 use Rattle.sd_laws.proofs.WalkMoves.{IsChanged, walk, will_move, end_move, prio_move}
 use Rattle.sd_laws.proofs.WalkMoves.IsChanged.{waits_on, unseen}
 
@@ -85,8 +85,7 @@ module _ (w : Work) (s : State) (n : ℕ) (c : CpuId) (ready : IsReady w s) (her
   step_after (Grant l u at) cause = given_step (after w s n c (Grant l u at)) u.0 l.0 (grant_move w s n c ready l u at here cause)
   step_after (Passed l) cause = quiet_step (graph s) (graph (after w s n c (Passed l))) (back_key n) (back_key (n + 1)) more sound (passed_move w s n c ready l here cause)
   step_after (Prio t u answer) cause = changed_step (after w s n c (Prio t u answer)) u.0 (prio_move w s n c ready t u answer here cause)
-  step_after (Bind t u d answer) cause = quiet_step (graph s) (graph (after w s n c (Bind t u d answer))) (back_key n) (back_key (n + 1)) more sound (bind_move w s n c ready t u d answer cause)
-  step_after e cause = quiet_step (graph s) (graph (after w s n c e)) (back_key n) (back_key (n + 1)) more sound (plain_move w s n c ready e refl refl refl refl refl refl refl cause)
+  step_after e cause = quiet_step (graph s) (graph (after w s n c e)) (back_key n) (back_key (n + 1)) more sound (plain_move w s n c ready e refl refl refl refl refl refl refl refl cause)
 
 -- Runs.
 

@@ -30,8 +30,7 @@ use Rattle.sd_frames.specs.Causes.{IsCause}
 use Rattle.sd_frames.proofs.CpuWords as C
 use Rattle.sd_frames.proofs.Words.{of_threads}
 use Rattle.sd_frames.proofs.HoldTable.{bound_part, pbound_bound}
-use Rattle.sd_invariants.proofs.OpenLemmas.{place_part as set_part, place_marks, places_plain, cpus_same, other_place}
-use Rattle.sd_frames.proofs.PlainWords.{drop_keeps}
+use Rattle.sd_invariants.proofs.OpenLemmas.{place_part as set_part, place_marks, drop_places as places_dropped, cpus_same, other_place}
 use Rattle.sd_frames.proofs.Searches.{nobody_runs}
 use Rattle.sd_invariants.proofs.BoundLemmas.{threads_same}
 use Rattle.sd_invariants.proofs.Movers.{bind_put_is}
@@ -68,7 +67,7 @@ joined_places s c to x other = other_place (with_open s to.0 (with_cpu_in c (ope
 
 module _ (w : Work) (s : State) (k : Known w s) (n : ℕ) (c : CpuId) where
   drop_places : (e : Event) (x : ℕ) → set_part (cpu_of (drop_ageing s c.0 e) x) ≡ set_part (cpu_of s x)
-  drop_places e x = (drop_keeps set_part places_plain s c.0 e).each x
+  drop_places e x = (places_dropped s c.0 e).each x
 
   -- a thread stands as it stood, by processors whose sets stay
   stands_frame : (r : State) (u : ℕ) → Stands s r → (thread_of r u).body.bound ≡ (thread_of s u).body.bound

@@ -12,7 +12,7 @@ use Rattle.sd_types.specs.declared.numbers.ThreadId.{ThreadId}
 use Rattle.sd_types.specs.declared.events.BindAnswer.{BindAnswer}
 use Rattle.sd_types.specs.declared.events.BindAnswer.TheVariants as bind_answer
 use Rattle.sd_types.specs.declared.events.Event.{Event}
-use Rattle.sd_types.specs.declared.events.Event.TheVariants.{Dispatch, Steal, Preempt, Yield, Done, Nap, Napend, Sleep, Wake, Rouse, Block, Will, Unblock, Grant, Age, Prio, CvWait, SemaWait, SemaVWake, SemaVCount, Move, Bind, Away}
+use Rattle.sd_types.specs.declared.events.Event.TheVariants.{Tick, Dispatch, Steal, Napend, Wake, Rouse, Will, Unblock, Grant, Age, Prio, SemaVWake, SemaVCount, Move, Bind}
 use Rattle.sd_types.specs.declared.events.PrioAnswer.{PrioAnswer}
 use Rattle.sd_types.specs.declared.events.PrioAnswer.TheVariants.{Changed, Refused}
 use Rattle.sd_types.specs.declared.events.Put.{Put}
@@ -37,7 +37,9 @@ use Rattle.sd_machine.specs.SetChanges.{bound_put, unbound_put, bind_put, bind_t
 use Rattle.sd_machine.specs.Threads.{best_sleeper, is_asleep, is_ts, next_to_age, runner}
 use Rattle.sd_frames.specs.Causes.{IsRequeuedAt, IsAnswered, IsCause}
 use Rattle.sd_invariants.specs.Laws.{woken_by}
-use Rattle.sd_frames.specs.Moves.{Step, put_step_if, reordered_step, aged_step, prio_step, bind_step, step_of}
+use Rattle.sd_frames.specs.Moves.{Step, put_step_if, reordered_step, aged_step, prio_step, bind_step, step_of, Stride, Goes, Falls, Leaves, WakesAny, leaver, stride_of, step_by}
+use Rattle.sd_machine.specs.Deeds.{ToSleep}
+use Rattle.sd_frames.proofs.Leavers.{leaver_runs}
 use Rattle.sd_frames.specs.Moves.Step.{Stay, Go}
 use Rattle.sd_invariants.proofs.AgreedAfter.{IsReady}
 use Rattle.sd_frames.proofs.Found.{runner_found, ready_found, queued_found, unbound_found, age_found}
@@ -122,30 +124,38 @@ bind_rouses : (w : Work) (s : State) (woken : Option ℕ) (n t u : ℕ) (d : Opt
 bind_rouses w s woken n t u d (bind_answer.Changed (Some at)) is = inr (bind_put_awake s u d at (bind_put_is w s t u d (Some at) (sym is)))
 bind_rouses w s woken n t u d answer is = tt
 
+-- a thread that leaves the processor, or none at all
+abbrev is_own : Option Stride → Bool
+is_own None = true
+is_own (Some (Goes t whither)) = true
+is_own (Some (Falls t end)) = true
+is_own (Some (Leaves t d)) = true
+is_own (Some (WakesAny None)) = true
+is_own _ = false
+
+own_rouses : (w : Work) (s : State) (woken : Option ℕ) (n : ℕ) (c : CpuId) (stride : Option Stride) → is_own stride ≡ true → ((t : ℕ) → leaver stride ≡ Some t → runner s c.0 ≡ Some t) → Rouses s woken (step_by w s n c stride)
+own_rouses w s woken n c None own runs = tt
+own_rouses w s woken n c (Some (Goes t whither)) own runs = runner_rouses s woken c.0 t (runs t refl)
+own_rouses w s woken n c (Some (Falls t end)) own runs = runner_rouses s woken c.0 t (runs t refl)
+own_rouses w s woken n c (Some (Leaves t d)) own runs = runner_rouses s woken c.0 t (runs t refl)
+own_rouses w s woken n c (Some (WakesAny None)) own runs = tt
+own_rouses w s woken n c _ own runs = cc
+
 rouses : (w : Work) (s : State) (n : ℕ) (c : CpuId) (e : Event) → IsCause w s c.0 e → Rouses s (woken_by e) (step_of w s n c e)
 rouses w s n c (Dispatch t p) cause = inr (ready_awake c.0 (cpu_of s c.0).set.0 (thread_of s t.0).place (ready_found s c.0 t.0 cause.1).stands)
 rouses w s n c (Steal v t p) cause = inr (queued_awake v.0 (thread_of s t.0).place (and_left _ (is_none (thread_of s t.0).body.bound) (unbound_found s v.0 t.0 cause.3).stands))
-rouses w s n c (Preempt t end) cause = runner_rouses s None c.0 t.0 cause.0.runs
-rouses w s n c (Away t d) cause = runner_rouses s None c.0 t.0 cause.0.runs
-rouses w s n c (Yield t) cause = runner_rouses s None c.0 t.0 cause.runs
-rouses w s n c (Done t) cause = runner_rouses s None c.0 t.0 cause.runs
-rouses w s n c (Nap t) cause = runner_rouses s None c.0 t.0 cause.1.runs
 rouses w s n c (Napend t at) cause = inl refl
-rouses w s n c (Sleep t k) cause = runner_rouses s None c.0 t.0 cause.runs
 rouses w s n c (Wake t k (Some u)) cause = inl refl
 rouses w s n c (Rouse k (Some u)) cause = inl refl
-rouses w s n c (Block t l) cause = runner_rouses s None c.0 t.0 cause.1.acts.runs
 rouses w s n c (Will l o p at) cause = reordered_rouses w s None n o.0 p at (thread_of s o.0).place cause.3
 rouses w s n c (Unblock l u at) cause = inl refl
 rouses w s n c (Grant l u at) cause = inl refl
 rouses w s n c (Age t p) cause = aged_rouses w s None n c (cause.0).0 t.0 cause.2
 rouses w s n c (Prio t u answer) cause = prio_rouses w s None n c.0 t.0 u cause.0 answer cause.2
-rouses w s n c (CvWait t k l) cause = runner_rouses s None c.0 t.0 cause.runs
-rouses w s n c (SemaWait t k) cause = runner_rouses s None c.0 t.0 cause.0.runs
 rouses w s n c (SemaVWake t k u at) cause = inl refl
 rouses w s n c (Move t at) cause = inr (queued_awake c.0 (thread_of s t.0).place (queued_found s c.0 t.0 cause.1).stands)
 rouses w s n c (Bind t u d answer) cause = bind_rouses w s None n t.0 u.0 d answer cause.1
-rouses w s n c e cause = tt
+rouses w s n c e cause = own_rouses w s (woken_by e) n c (stride_of e) refl (leaver_runs w s c.0 e cause)
 
 asleep_kept : (s r : State) (u : ℕ) (woken : Option ℕ) (step : Step) → Rouses s woken step → Stepped step s r → woken ≢ Some u → sleeps (thread_of s u).place ≡ true → (thread_of r u).place ≡ (thread_of s u).place
 asleep_kept s r u woken Stay is a unwoken asleep = a u
@@ -184,14 +194,16 @@ found w u k key s c _ ready cause asleep = λ is. cc
 
 -- The event puts the thread to sleep.
 
-fell : (s r : State) (n : ℕ) (x y : ThreadId × ChanId) → Stepped (Go x.0.0 (Asleep x.1 (back_key n))) s r → Some x ≡ Some y → (thread_of r y.0.0).place ≡ Asleep y.1 (back_key n)
-fell s r n x y a is = subst (λ (z : ThreadId × ChanId). (thread_of r z.0.0).place ≡ Asleep z.1 (back_key n)) (same_Some x y is) a.at
+abbrev sleeps_off : Option (ThreadId × ChanId) → Option Stride
+sleeps_off None = None
+sleeps_off (Some x) = Some (Goes x.0.0 (ToSleep x.1))
+
+sleep_stride : (e : Event) (x : ThreadId × ChanId) → put_to_sleep e ≡ Some x → stride_of e ≡ sleeps_off (put_to_sleep e)
+sleep_stride (Tick u) x is = cc
+sleep_stride e x is = cc
 
 pub falls : (w : Work) (s : State) (n : ℕ) (c : CpuId) (e : Event) (t : ThreadId) (k : ChanId) → IsReady w s → IsCause w s c.0 e → put_to_sleep e ≡ Some (t, k) → (thread_of (after w s n c e) t.0).place ≡ Asleep k (back_key n)
-falls w s n c (Sleep u j) t k ready cause is = fell s (after w s n c (Sleep u j)) n (u, j) (t, k) (steps_after w s n c (Sleep u j) ready cause) is
-falls w s n c (CvWait u j l) t k ready cause is = fell s (after w s n c (CvWait u j l)) n (u, j) (t, k) (steps_after w s n c (CvWait u j l) ready cause) is
-falls w s n c (SemaWait u j) t k ready cause is = fell s (after w s n c (SemaWait u j)) n (u, j) (t, k) (steps_after w s n c (SemaWait u j) ready cause) is
-falls w s n c _ t k ready cause is = cc
+falls w s n c e t k ready cause is = (subst (λ o. Stepped (step_by w s n c o) s (after w s n c e)) (sleep_stride e (t, k) is ∙ ap sleeps_off is) (steps_after w s n c e ready cause)).at
 
 pub sleepers_law : SleepersSleepUntilWoken
 sleepers_law = λ w es more e t k run puts unwoken.

@@ -35,12 +35,12 @@ use Rattle.sd_machine.specs.Events.{dropped_duty, drop_ageing, effect, after}
 use Rattle.sd_frames.specs.Causes.{IsCause}
 use Rattle.sd_frames.specs.Moves.{step_of}
 use Rattle.sd_invariants.proofs.AgreedAfter.{IsReady}
-use Rattle.sd_frames.proofs.HoldTable.{numbers_part, numbers_moves, numbers_ops, looped_part, looped_moves, looped_ops, Goes, willed_numbers, willed_looped}
+use Rattle.sd_frames.proofs.HoldTable.{numbers_part, numbers_same, looped_part, looped_same, Goes, willed_numbers, willed_looped}
 use Rattle.sd_frames.proofs.LockTable.{quiet_locks}
 use Rattle.sd_invariants.proofs.Movers.{mover_of, owner_thread}
 use Rattle.sd_frames.proofs.PassLemmas.{drop_duties}
 use Rattle.sd_invariants.proofs.ScriptLemmas.{step_away}
-use Rattle.sd_frames.proofs.Words.{Same, plain_same}
+use Rattle.sd_frames.proofs.Words.{Same}
 use Rattle.sd_laws.proofs.Begun.{WalkIs, duty_walk, none_walks, begun, prio_walk, refused_prio_walks, will_duty, end_duty}
 use Rattle.sd_laws.proofs.ClassThreads.{after_but}
 use Rattle.sd_laws.proofs.Exact.{exact_waiting}
@@ -143,7 +143,7 @@ module _ (w : Work) (s : State) (n : ℕ) (c : CpuId) (ready : IsReady w s) wher
       → IsEnd (graph s) (graph (after w s n c (WalkEnd l))) c.0 (walk l seek key)
   end_move l seek key here is cause =
       let r : State = after w s n c (WalkEnd l) in
-      let numbers : Same numbers_part s r = plain_same numbers_part numbers_moves numbers_ops w s n c (WalkEnd l) refl in
+      let numbers : Same numbers_part s r = numbers_same w s n c (WalkEnd l) refl in
       record {
         was = ap walk_of is;
         free = nobody_owns (lock_of s l.0) cause.1;
@@ -151,7 +151,7 @@ module _ (w : Work) (s : State) (n : ℕ) (c : CpuId) (ready : IsReady w s) wher
         waits = quiet_waits (step_of w s n c (WalkEnd l)) s r (steps w s n c ready (WalkEnd l) cause) tt tt;
         owner = same_owners s r (quiet_locks w s n c (WalkEnd l) refl);
         willed = same_willed s r numbers;
-        looped = (plain_same looped_part looped_moves looped_ops w s n c (WalkEnd l) refl).each;
+        looped = (looped_same w s n c (WalkEnd l) refl).each;
         eff = seen_eff None s r (after_but w s n c (WalkEnd l)) tt numbers;
       }
 
@@ -169,12 +169,12 @@ module _ (w : Work) (s : State) (n : ℕ) (c : CpuId) (ready : IsReady w s) wher
   refused_move : (t u : ThreadId) (denied : Denied) → IsCause w s c.0 (Prio t u (Refused denied)) → IsQuiet (graph s) (graph (after w s n c (Prio t u (Refused denied))))
   refused_move t u denied cause =
       let r : State = after w s n c (Prio t u (Refused denied)) in
-      let numbers : Same numbers_part s r = plain_same numbers_part numbers_moves numbers_ops w s n c (Prio t u (Refused denied)) refl in
+      let numbers : Same numbers_part s r = numbers_same w s n c (Prio t u (Refused denied)) refl in
       record {
         waits = prio_waits t u (Refused denied) cause;
         owner = same_owners s r (quiet_locks w s n c (Prio t u (Refused denied)) refl);
         willed = same_willed s r numbers;
-        looped = (plain_same looped_part looped_moves looped_ops w s n c (Prio t u (Refused denied)) refl).each;
+        looped = (looped_same w s n c (Prio t u (Refused denied)) refl).each;
         walks = (refused_prio_walks w s n c t u denied).each;
         eff = seen_eff None s r (after_but w s n c (Prio t u (Refused denied))) tt numbers;
       }
@@ -189,10 +189,10 @@ module _ (w : Work) (s : State) (n : ℕ) (c : CpuId) (ready : IsReady w s) wher
       idle = cause_walks w s c.0 (Prio t u (Changed p at)) refl cause
 
       numbers : Same numbers_part s r
-      numbers = plain_same numbers_part numbers_moves numbers_ops w s n c (Prio t u (Changed p at)) refl
+      numbers = numbers_same w s n c (Prio t u (Changed p at)) refl
 
       looped : Same looped_part s r
-      looped = plain_same looped_part looped_moves looped_ops w s n c (Prio t u (Changed p at)) refl
+      looped = looped_same w s n c (Prio t u (Changed p at)) refl
 
       waits : IsSame (graph s).waits (graph r).waits
       waits = prio_waits t u (Changed p at) cause

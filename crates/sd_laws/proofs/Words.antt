@@ -1,5 +1,5 @@
 -- Where the changes of which events are made take a thread, and with what priority.
-use Rattle.std.proofs.Common.{◌≡◌, ℕ, ◌+◌, ◌<◌, length, Some, ap, subst, arith}
+use Rattle.std.proofs.Common.{◌≡◌, ℕ, ◌<◌, length, Some, ap, subst, arith}
 use Rattle.sd_types.specs.declared.numbers.ChanId.{ChanId}
 use Rattle.sd_types.specs.declared.numbers.CpuId.{CpuId}
 use Rattle.sd_types.specs.declared.numbers.LockId.{LockId}
@@ -12,17 +12,16 @@ use Rattle.sd_types.specs.declared.works.Work.{Work}
 use Rattle.sd_types.specs.Willed.{without_number, changed_number}
 use Rattle.sd_rules.specs.ClassRules.{class_requeue}
 use Rattle.sd_state.specs.declared.states.Place.{Place}
-use Rattle.sd_state.specs.declared.states.Place.TheVariants.{Waiting, Asleep, Napping, Ended}
+use Rattle.sd_state.specs.declared.states.Place.TheVariants.{Asleep}
 use Rattle.sd_state.specs.declared.states.LockState.TheVariants.{Owned}
 use Rattle.sd_state.specs.declared.states.State.{State}
-use Rattle.sd_state.specs.States.{thread_of, cpu_of}
-use Rattle.sd_state.specs.Operations.{op_of}
+use Rattle.sd_state.specs.States.{thread_of}
 use Rattle.sd_machine.specs.Threads.{thread_id, lock_of, with_lock, greatest_waiting, has_waiters, best_sleeper_below}
 use Rattle.sd_machine.specs.Bodies.{woken_class}
 use Rattle.sd_machine.specs.Changes.{back_key, key_at, queue_place, place_put, finish_op, hold, set_class, set_number, set_looped, leave}
-use Rattle.sd_machine.specs.Dispatching.{preempted, yielded, done}
-use Rattle.sd_machine.specs.Sleeping.{nap_ticks, napped, fallen_asleep, woken, woke, rouse_key, roused}
-use Rattle.sd_machine.specs.Locking.{side_of, blocked, release_from, released, unblocked, others_waiting, one_reader_more, granted_to_writer, granted_to_reader}
+use Rattle.sd_machine.specs.Dispatching.{preempted, yielded}
+use Rattle.sd_machine.specs.Sleeping.{fallen_asleep, woken, woke, rouse_key, roused}
+use Rattle.sd_machine.specs.Locking.{release_from, released, unblocked, others_waiting, one_reader_more, granted_to_writer, granted_to_reader}
 use Rattle.sd_machine.specs.Walking.{walked}
 use Rattle.sd_machine.specs.Conditions.{cv_waited, sema_handed}
 use Rattle.sd_laws.proofs.Alike.{Weight, weight_part, Calm, Weighs, then_calm, calm_alike, calm_weighs, weighs_calm, lock_calm, set_duty_calm, finish_op_calm, hold_calm, set_looped_calm, set_class_weighs, set_number_weighs, let_go_weighs, release_calm, unblocked_on_calm, roused_on_calm}
@@ -45,28 +44,16 @@ module _ (w : Work) (s : State) (n : ℕ) (c : CpuId) (t : ℕ) (inside : t < le
       (weighs_goes (Others c.0) s (set_class s t k) _ t _ _ _ before (leave_goes (set_class s t k) c.0 t (queue_place w t c (key_at n end) (thread_of s t).body) (omega (arith, many, inside)) here))
       before.weights.at
 
-  left_goes : (r : State) (place : Place) → Calm (leave s c.0 t place) r → Goes (Others c.0) s r t place (weight_part (thread_of s t))
+  pub left_goes : (r : State) (place : Place) → Calm (leave s c.0 t place) r → Goes (Others c.0) s r t place (weight_part (thread_of s t))
   left_goes r place a = goes_alike (Others c.0) s (leave s c.0 t place) r t place (weight_part (thread_of s t)) (leave_goes s c.0 t place inside here) (calm_alike _ r a)
 
   pub yielded_goes : Goes (Others c.0) s (yielded w s n c t) t (queue_place w t c (back_key n) (thread_of s t).body) (weight_part (thread_of s t))
   unfolding yielded
   yielded_goes = left_goes _ (queue_place w t c (back_key n) (thread_of s t).body) (finish_op_calm w _ t)
 
-  pub done_goes : Goes (Others c.0) s (done s c t) t Ended (weight_part (thread_of s t))
-  unfolding done
-  done_goes = leave_goes s c.0 t Ended inside here
-
-  pub napped_goes : Goes (Others c.0) s (napped w s c t) t (Napping c ((cpu_of s c.0).count + nap_ticks (op_of w t (thread_of s t).body))) (weight_part (thread_of s t))
-  unfolding napped
-  napped_goes = left_goes _ (Napping c ((cpu_of s c.0).count + nap_ticks (op_of w t (thread_of s t).body))) (finish_op_calm w _ t)
-
   pub asleep_goes : (k : ChanId) → Goes (Others c.0) s (fallen_asleep w s n c t k) t (Asleep k (back_key n)) (weight_part (thread_of s t))
   unfolding fallen_asleep
   asleep_goes k = left_goes _ (Asleep k (back_key n)) (finish_op_calm w _ t)
-
-  pub blocked_goes : (l : LockId) → Goes (Others c.0) s (blocked w s n c t l) t (Waiting l (side_of (op_of w t (thread_of s t).body)) (back_key n)) (weight_part (thread_of s t))
-  unfolding blocked
-  blocked_goes l = left_goes _ (Waiting l (side_of (op_of w t (thread_of s t).body)) (back_key n)) (set_duty_calm _ c.0 _)
 
   pub released_weighs : (l : LockId) → Weighs s (released w s c t l) t ((thread_of s t).body.class, without_number l (thread_of s t).body.willed.items)
   unfolding released

@@ -1,3 +1,4 @@
 pub mod Folds
 pub mod Layouts
+pub mod Marks
 pub mod Rows

@@ -2,9 +2,11 @@
 
 ghost use Rattle.std.specs.Prelude.{◌≡◌, ◌≤◌, ◌<◌, ◌^◌, ◌++◌, IfOk, OnOk, flat_map, length};
 ghost use Rattle.std.specs.List.{range_with_len};
-ghost use Rattle.sd_layout.specs.Folds.{change_if, changed_by, changed_in, changes_in, fits_page, fold_if, folds, folds_from, folds_of, is_change, is_gap, is_wide, long, many, place_from, ranked_in, scale_of, stop_at, stops_of, onset_in};
+ghost use Rattle.sd_layout.specs.Folds.{change_if, changed_by, changed_in, changes_in, fits_page, fold_if, folds, folds_from, folds_of, is_gap, is_wide, long, many, place_from, ranked_in, scale_of, stops_of, onset_in};
+ghost use Rattle.sd_layout.specs.Marks.{stop_if};
 
 use crate::frames::Frame;
+use crate::marks::{is_marked, marks_of};
 use sd_stretches::{Happening, History, Onset, Rank};
 use sd_types::Event;
 use std::alloc::{AllocError, Global};
@@ -101,21 +103,10 @@ fn changes_in(alloc: Global, frame: Frame, history: &History) -> Result<Vec<u32>
     Ok(changes)
 }
 
-fn is_change(changes: &[u32], tick: u32) -> bool
-    ensures { result ≡ is_change changes.now tick }
+fn push_stop(frame: Frame, changes: bool, tick: u32, stops: &mut Vec<u32>) -> Result<(), AllocError>
+    ensures { OnOk result (stops.new.items ≡ stops.old.items ++ stop_if frame changes tick) }
 {
-    changes.iter().any(|c| *c == tick)
-}
-
-fn push_stop(
-    frame: Frame,
-    changes: &[u32],
-    tick: u32,
-    stops: &mut Vec<u32>,
-) -> Result<(), AllocError>
-    ensures { OnOk result (stops.new.items ≡ stops.old.items ++ stop_at frame changes.now tick) }
-{
-    if tick == frame.from || is_change(changes, tick) {
+    if tick == frame.from || changes {
         stops.push(tick)?;
     }
     Ok(())
@@ -126,9 +117,11 @@ fn push_stop(
 fn stops_of(alloc: Global, frame: Frame, changes: &[u32]) -> Result<Vec<u32>, AllocError>
     ensures { IfOk result (λ v. v.items ≡ stops_of frame changes.now) }
 {
+    let marks = marks_of(alloc, frame, changes)?;
     let mut stops = Vec::new(alloc);
     for n in 0..frame.to.saturating_sub(frame.from) {
-        push_stop(frame, changes, frame.from + n, &mut stops)?;
+        let marked = is_marked(&marks, changes, frame.from, n);
+        push_stop(frame, marked, frame.from + n, &mut stops)?;
     }
     stops.push(frame.to)?;
     Ok(stops)

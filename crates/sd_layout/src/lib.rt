@@ -6,6 +6,7 @@ mod folds;
 mod frames;
 mod laws;
 mod layouts;
+mod marks;
 mod rows;
 
 pub use folds::Column;

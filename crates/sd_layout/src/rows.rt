@@ -8,7 +8,7 @@ ghost use Rattle.sd_layout.specs.Rows.{acts, begins_in, is_deed, layout_of, orde
 use crate::folds::{folds, scale_of};
 use crate::frames::Frame;
 use crate::layouts::Layout;
-use sd_stretches::{History, Stretch, does_run, stretches};
+use sd_stretches::{ByThread, Stretch, does_run, stretches};
 use sd_types::Work;
 use std::alloc::{AllocError, Global};
 
@@ -43,12 +43,12 @@ fn acts(
     alloc: Global,
     work: &Work,
     frame: Frame,
-    history: &History,
+    history: &ByThread,
     t: usize,
 ) -> Result<bool, AllocError>
     ensures { IfOk result (λ b. b ≡ acts work.now frame history.now t) }
 {
-    let own = stretches(alloc, &history.onsets, t, history.entries, work.limit)?;
+    let own = stretches(alloc, history, t, work.limit)?;
     Ok(any_deed(frame, &own))
 }
 
@@ -75,7 +75,7 @@ fn acting_first(
     alloc: Global,
     work: &Work,
     frame: Frame,
-    history: &History,
+    history: &ByThread,
 ) -> Result<Vec<usize>, AllocError>
     ensures { IfOk result (λ v. v.items ≡ ordered (acts work.now frame history.now) (thread_numbers work.now)) }
 {
@@ -105,7 +105,7 @@ fn rows_of(
     alloc: Global,
     work: &Work,
     frame: Frame,
-    history: &History,
+    history: &ByThread,
 ) -> Result<Vec<usize>, AllocError>
     ensures { IfOk result (λ v. v.items ≡ rows_of work.now frame history.now) }
 {
@@ -123,12 +123,12 @@ pub fn layout_of(
     alloc: Global,
     work: &Work,
     frame: Frame,
-    history: &History,
+    history: &ByThread,
 ) -> Result<Layout, AllocError>
     ensures { IfOk result (λ layout. layout ≡ layout_of work.now frame history.now) }
 {
     let rows = rows_of(alloc, work, frame, history)?;
-    let folds = folds(alloc, frame, history)?;
+    let folds = folds(alloc, frame, &history.history)?;
     let scale = scale_of(frame, &folds);
     Ok(Layout {
         from: frame.from,

@@ -1,8 +1,11 @@
 pub mod Chains
 pub mod CycleLemmas
+pub mod DeedLemmas
 pub mod Greatest
 pub mod HolderLemmas
 pub mod Moves
+pub mod NameLemmas
+pub mod NeedLemmas
 pub mod NumberLemmas
 pub mod OpeningLemmas
 pub mod PlaceLemmas

@@ -1,5 +1,5 @@
 -- An event keeps the numbers of threads, locks, processors, channels and sets.
-use Rattle.std.proofs.Common.{◌≡◌, ℕ, Bool, true, false, refl, ◌∙◌, length, Option, Some, None, List}
+use Rattle.std.proofs.Common.{◌≡◌, ℕ, Bool, true, false, refl, ◌∙◌, sym, subst, length, Option, Some, None, List}
 use Rattle.std.proofs.lemmas.List.{length-set}
 use Rattle.sd_types.specs.declared.numbers.ChanId.{ChanId}
 use Rattle.sd_types.specs.declared.numbers.CpuId.{CpuId}
@@ -8,7 +8,6 @@ use Rattle.sd_types.specs.declared.numbers.SetId.{SetId}
 use Rattle.sd_types.specs.declared.numbers.ThreadId.{ThreadId}
 use Rattle.sd_types.specs.declared.classes.ClassParms.{ClassParms}
 use Rattle.sd_types.specs.declared.classes.ClassState.{ClassState}
-use Rattle.sd_types.specs.declared.events.AssignAnswer.{AssignAnswer}
 use Rattle.sd_types.specs.declared.events.AssignAnswer.TheVariants as assign
 use Rattle.sd_types.specs.declared.events.BindAnswer.{BindAnswer}
 use Rattle.sd_types.specs.declared.events.BindAnswer.TheVariants as bind_answer
@@ -17,15 +16,13 @@ use Rattle.sd_types.specs.declared.events.Duty.{Duty}
 use Rattle.sd_types.specs.declared.events.Duty.TheVariants as duty
 use Rattle.sd_types.specs.declared.events.End.{End}
 use Rattle.sd_types.specs.declared.events.Event.{Event}
-use Rattle.sd_types.specs.declared.events.Event.TheVariants.{Tick, Spin, Idle, Dispatch, Steal, Preempt, Yield, Done, Nap, Napend, Sleep, Wake, Wakeall, Rouse, Enter, Read, Write, Block, Will, End as WalkEnd, Exit, Unblock, Grant, Passed, Age, Prio, CvWait, SemaP, SemaWait, SemaVWake, SemaVCount, Assign, Move, Joined, Bind, Away}
-use Rattle.sd_types.specs.declared.events.PrioAnswer.{PrioAnswer}
 use Rattle.sd_types.specs.declared.events.PrioAnswer.TheVariants.{Changed, Refused}
 use Rattle.sd_types.specs.declared.events.Put.{Put}
 use Rattle.sd_types.specs.declared.scripts.Op.{Op}
 use Rattle.sd_types.specs.declared.scripts.Op.TheVariants as op
 use Rattle.sd_types.specs.declared.works.Work.{Work}
 use Rattle.sd_types.specs.declared.numbers.Side.TheVariants.{Writer}
-use Rattle.std.specs.Prelude.{if◌then◌else◌, Result, Ok, Err, is_none, is_some, nat_lt, nat_le, ◌==◌}
+use Rattle.std.specs.Prelude.{if◌then◌else◌, Result, Ok, Err, is_some, nat_lt, nat_le, ◌==◌}
 use Rattle.sd_state.specs.declared.states.Place.{Place}
 use Rattle.sd_state.specs.declared.states.Place.TheVariants.{Running, Waiting}
 use Rattle.sd_state.specs.declared.states.LockState.{LockState}
@@ -36,17 +33,18 @@ use Rattle.sd_state.specs.declared.states.State.{State}
 use Rattle.sd_state.specs.States.{thread_of, cpu_of, with_thread, with_cpu, eff_of}
 use Rattle.sd_machine.specs.Shapes.{FitsFully}
 use Rattle.sd_state.specs.Operations.{op_of}
-use Rattle.sd_machine.specs.Threads.{lock_of, with_lock, with_count, with_open, best_waiter, best_sleeper, has_waiters}
+use Rattle.sd_machine.specs.Threads.{lock_of, with_lock, with_count, with_open, best_waiter, has_waiters}
 use Rattle.sd_machine.specs.Changes.{finish_op, run_tick, set_class, send_back, hold, let_go, set_number, set_looped, set_duty, count_tick, clear_marks, set_mark, set_kernel_mark, mark_over, remark, run_on, leave, put, put_where, close, join, bind, unbind}
-use Rattle.sd_machine.specs.Dispatching.{charge, class_counts, ticked, spun, idled, dispatched, stolen, preempted, sent_away, yielded, done}
-use Rattle.sd_machine.specs.Sleeping.{woken, napped, fallen_asleep, woke, woke_all, roused_on, roused}
-use Rattle.sd_machine.specs.Locking.{owned, read, blocked, free_or_passed, release_from, released, exited, unblocked_on, unblocked, granted_to_writer, granted_to_reader, granted, passed_on, passed}
+use Rattle.sd_machine.specs.Dispatching.{charge, class_counts, preempted, sent_away}
+use Rattle.sd_machine.specs.Sleeping.{woken, roused_on, roused}
+use Rattle.sd_machine.specs.Locking.{free_or_passed, release_from, unblocked_on, granted_to_writer, granted_to_reader, granted, passed_on, passed}
 use Rattle.sd_machine.specs.Requeueing.{reordered_at, reordered}
-use Rattle.sd_machine.specs.Walking.{willed, walk_ended}
-use Rattle.sd_machine.specs.Prioritising.{answer_to, walk_from, changed_by, changed_on, reprioritised, lifted, aged}
-use Rattle.sd_machine.specs.Conditions.{cv_waited, sema_taken, sema_counted, sema_handed}
-use Rattle.sd_machine.specs.SetChanges.{cleared, assigned, moved, joined, called_back, rebound, pbound}
+use Rattle.sd_machine.specs.Walking.{willed}
+use Rattle.sd_machine.specs.Prioritising.{answer_to, walk_from, changed_by, changed_on, lifted, aged}
+use Rattle.sd_machine.specs.SetChanges.{cleared, called_back, rebound, pbound}
 use Rattle.sd_machine.specs.Events.{drop_ageing, effect, after}
+use Rattle.sd_machine.specs.Deeds.{Deed, CountsTick, RunsTick, CountsClass, ClearsMarks, LooksAgain, ComesHere, GoesTo, GoesBack, GoesAway, WakesUp, WakesIf, PutsThread, EndsOp, TakesLock, ReadsLock, HoldsLock, FreesLock, LetsGo, FreesLast, GrantsLock, PassesLock, BeginsWalk, WalksOn, EndsDuty, OrdersWake, Rouses, Lifts, Reclasses, TakesOne, CountsOne, MovesCpu, JoinsSet, BindsThread, did, all_did, deeds}
+use Rattle.sd_machine.proofs.DeedLemmas.{effect_did, each_keeps}
 
 -- s' has as many of each as s
 pub record IsShaped (s s' : State) : Type 0 where
@@ -196,26 +194,6 @@ charge_shape s c t expired = either_shape s _ _ _ (then_shape s _ _ (send_back_s
 pub class_counts_shape : (w : Work) (s : State) (c t : ℕ) → IsShaped s (class_counts w s c t)
 class_counts_shape w s c t = then_shape s _ _ (set_class_shape s t _) (charge_shape _ c t _)
 
-pub ticked_shape : (w : Work) (s : State) (c : ℕ) (t : ℕ) → IsShaped s (ticked w s c t)
-unfolding ticked
-ticked_shape w s c t = then_shape s _ _ (count_tick_shape w s c) (then_shape _ _ _ (run_tick_shape w _ t) (class_counts_shape w _ c t))
-
-pub spun_shape : (w : Work) (s : State) (c : ℕ) (t : ℕ) → IsShaped s (spun w s c t)
-unfolding spun
-spun_shape w s c t = then_shape s _ _ (count_tick_shape w s c) (class_counts_shape w _ c t)
-
-pub idled_shape : (w : Work) (s : State) (c : ℕ) → IsShaped s (idled w s c)
-unfolding idled
-idled_shape w s c = count_tick_shape w s c
-
-pub dispatched_shape : (s : State) (c : CpuId) (t : ℕ) → IsShaped s (dispatched s c t)
-unfolding dispatched
-dispatched_shape s c t = then_shape s _ _ (clear_marks_shape s c.0) (run_on_shape _ t c)
-
-pub stolen_shape : (s : State) (c : CpuId) (t : ℕ) → IsShaped s (stolen s c t)
-unfolding stolen
-stolen_shape s c t = run_on_shape s t c
-
 pub preempted_shape : (w : Work) (s : State) (n : ℕ) (c : CpuId) (t : ℕ) (end : End) → IsShaped s (preempted w s n c t end)
 unfolding preempted
 preempted_shape w s n c t end = then_shape s _ _ (set_class_shape s t _) (leave_shape _ c.0 t _)
@@ -224,34 +202,9 @@ pub sent_away_shape : (s : State) (n : ℕ) (c : CpuId) (t : ℕ) (d : CpuId) �
 unfolding sent_away
 sent_away_shape s n c t d = then_shape s _ _ (leave_shape s c.0 t _) (mark_over_shape _ d.0 _)
 
-pub yielded_shape : (w : Work) (s : State) (n : ℕ) (c : CpuId) (t : ℕ) → IsShaped s (yielded w s n c t)
-unfolding yielded
-yielded_shape w s n c t = then_shape s _ _ (leave_shape s c.0 t _) (finish_op_shape w _ t)
-
-pub done_shape : (s : State) (c : CpuId) (t : ℕ) → IsShaped s (done s c t)
-unfolding done
-done_shape s c t = leave_shape s c.0 t _
-
 pub woken_shape : (w : Work) (s : State) (n : ℕ) (t : ℕ) (at : Put) → IsShaped s (woken w s n t at)
 unfolding woken
 woken_shape w s n t at = then_shape s _ _ (set_class_shape s t _) (put_shape w _ n t at)
-
-pub napped_shape : (w : Work) (s : State) (c : CpuId) (t : ℕ) → IsShaped s (napped w s c t)
-unfolding napped
-napped_shape w s c t = then_shape s _ _ (leave_shape s c.0 t _) (finish_op_shape w _ t)
-
-pub fallen_asleep_shape : (w : Work) (s : State) (n : ℕ) (c : CpuId) (t : ℕ) (k : ChanId) → IsShaped s (fallen_asleep w s n c t k)
-unfolding fallen_asleep
-fallen_asleep_shape w s n c t k = then_shape s _ _ (leave_shape s c.0 t _) (finish_op_shape w _ t)
-
-pub woke_shape : (w : Work) (s : State) (n t : ℕ) (u : Option (ThreadId × Put)) → IsShaped s (woke w s n t u)
-unfolding woke
-woke_shape w s n t None = finish_op_shape w s t
-woke_shape w s n t (Some u) = then_shape s _ _ (woken_shape w s n u.0.0 u.1) (finish_op_shape w _ t)
-
-pub woke_all_shape : (w : Work) (s : State) (n : ℕ) (c : CpuId) (t : ℕ) (k : ChanId) → IsShaped s (woke_all w s n c t k)
-unfolding woke_all
-woke_all_shape w s n c t k = then_shape s _ _ (either_shape s _ _ (is_none (best_sleeper s k.0)) (same_shape s) (set_duty_shape s c.0 _)) (finish_op_shape w _ t)
 
 pub roused_on_shape : (s : State) (c : CpuId) (o : Option ℕ) → IsShaped s (roused_on s c o)
 roused_on_shape s c None = set_duty_shape s c.0 _
@@ -261,18 +214,6 @@ pub roused_shape : (w : Work) (s : State) (n : ℕ) (c : CpuId) (k : ChanId) (u 
 unfolding roused
 roused_shape w s n c k None duty = set_duty_shape s c.0 _
 roused_shape w s n c k (Some u) duty = then_shape s _ _ (woken_shape w s n u.0.0 u.1) (roused_on_shape _ c _)
-
-pub owned_shape : (w : Work) (s : State) (t : ℕ) (l : LockId) → IsShaped s (owned w s t l)
-unfolding owned
-owned_shape w s t l = then_shape s _ _ (lock_shape s l.0 _) (then_shape _ _ _ (hold_shape _ t l) (finish_op_shape w _ t))
-
-pub read_shape : (w : Work) (s : State) (t : ℕ) (l : LockId) → IsShaped s (read w s t l)
-unfolding read
-read_shape w s t l = then_shape s _ _ (lock_shape s l.0 _) (then_shape _ _ _ (hold_shape _ t l) (finish_op_shape w _ t))
-
-pub blocked_shape : (w : Work) (s : State) (n : ℕ) (c : CpuId) (t : ℕ) (l : LockId) → IsShaped s (blocked w s n c t l)
-unfolding blocked
-blocked_shape w s n c t l = then_shape s _ _ (leave_shape s c.0 t _) (set_duty_shape _ c.0 _)
 
 pub free_or_passed_shape : (s : State) (c : CpuId) (l : LockId) (duty : Duty) → IsShaped s (free_or_passed s c l duty)
 free_or_passed_shape s c l duty =
@@ -284,21 +225,9 @@ release_from_shape w s c l (Owned o) = free_or_passed_shape s c l _
 release_from_shape w s c l (ReadHeld n) = either_shape s _ _ (nat_le n 1) (free_or_passed_shape s c l _) (lock_shape s l.0 _)
 release_from_shape w s c l (Passing d r) = lock_shape s l.0 _
 
-pub released_shape : (w : Work) (s : State) (c : CpuId) (t : ℕ) (l : LockId) → IsShaped s (released w s c t l)
-unfolding released
-released_shape w s c t l = then_shape s _ _ (release_from_shape w s c l (lock_of s l.0)) (let_go_shape _ t l)
-
-pub exited_shape : (w : Work) (s : State) (c : CpuId) (t : ℕ) (l : LockId) → IsShaped s (exited w s c t l)
-unfolding exited
-exited_shape w s c t l = then_shape s _ _ (released_shape w s c t l) (then_shape _ _ _ (finish_op_shape w _ t) (remark_shape _ c.0))
-
 pub unblocked_on_shape : (s : State) (c : CpuId) (l : LockId) (b : Bool) → IsShaped s (unblocked_on s c l b)
 unblocked_on_shape s c l true = same_shape s
 unblocked_on_shape s c l false = then_shape s _ _ (lock_shape s l.0 _) (set_duty_shape _ c.0 _)
-
-pub unblocked_shape : (w : Work) (s : State) (n : ℕ) (c : CpuId) (l : LockId) (u : ℕ) (at : Put) → IsShaped s (unblocked w s n c l u at)
-unfolding unblocked
-unblocked_shape w s n c l u at = then_shape s _ _ (woken_shape w s n u at) (unblocked_on_shape _ c l _)
 
 pub granted_to_writer_shape : (w : Work) (s : State) (n : ℕ) (c : CpuId) (l : LockId) (u : ℕ) (at : Put) → IsShaped s (granted_to_writer w s n c l u at)
 unfolding granted_to_writer
@@ -334,10 +263,6 @@ pub willed_shape : (w : Work) (s : State) (n : ℕ) (c : CpuId) (l : LockId) (o 
 unfolding willed
 willed_shape w s n c l o at = then_shape s _ _ (set_number_shape s o.0 l _) (then_shape _ _ _ (set_looped_shape _ o.0 _) (then_shape _ _ _ (set_duty_shape _ c.0 _) (reordered_shape w _ n o.0 _ at)))
 
-pub walk_ended_shape : (s : State) (c : CpuId) → IsShaped s (walk_ended s c)
-unfolding walk_ended
-walk_ended_shape s c = set_duty_shape s c.0 _
-
 pub walk_from_shape : (s : State) (c : CpuId) (u : ThreadId) (place : Place) → IsShaped s (walk_from s c u place)
 walk_from_shape s c u (Waiting l side k) = set_duty_shape s c.0 _
 walk_from_shape s c u _ = same_shape s
@@ -350,11 +275,6 @@ pub changed_on_shape : (w : Work) (s : State) (n : ℕ) (c : CpuId) (t : ℕ) (u
 changed_on_shape w s n c t u at (Some (op.Prio v r)) = changed_by_shape w s n c u at (answer_to w s t u.0 r)
 changed_on_shape w s n c t u at _ = same_shape s
 
-pub reprioritised_shape : (w : Work) (s : State) (n : ℕ) (c : CpuId) (t : ℕ) (u : ThreadId) (answer : PrioAnswer) → IsShaped s (reprioritised w s n c t u answer)
-unfolding reprioritised
-reprioritised_shape w s n c t u (Changed p at) = then_shape s _ _ (changed_on_shape w s n c t u at (op_of w t (thread_of s t).body)) (finish_op_shape w _ t)
-reprioritised_shape w s n c t u (Refused d) = finish_op_shape w s t
-
 pub lifted_shape : (w : Work) (s : State) (n : ℕ) (c : CpuId) (t old : ℕ) → IsShaped s (lifted w s n c t old)
 lifted_shape w s n c t old = either_shape s _ _ (eff_of s t == old) (same_shape s) (put_shape w s n t _)
 
@@ -362,40 +282,9 @@ pub aged_shape : (w : Work) (s : State) (n : ℕ) (c : CpuId) (t : ℕ) → IsSh
 unfolding aged
 aged_shape w s n c t = then_shape s _ _ (set_class_shape s t _) (then_shape _ _ _ (lifted_shape w _ n c t _) (set_duty_shape _ c.0 _))
 
-pub cv_waited_shape : (w : Work) (s : State) (n : ℕ) (c : CpuId) (t : ℕ) (k : ChanId) (l : LockId) → IsShaped s (cv_waited w s n c t k l)
-unfolding cv_waited
-cv_waited_shape w s n c t k l = then_shape s _ _ (released_shape w s c t l) (fallen_asleep_shape w _ n c t k)
-
-pub sema_taken_shape : (w : Work) (s : State) (t : ℕ) (k : ChanId) → IsShaped s (sema_taken w s t k)
-unfolding sema_taken
-sema_taken_shape w s t k = then_shape s _ _ (count_shape s k.0 _) (finish_op_shape w _ t)
-
-pub sema_counted_shape : (w : Work) (s : State) (t : ℕ) (k : ChanId) → IsShaped s (sema_counted w s t k)
-unfolding sema_counted
-sema_counted_shape w s t k = then_shape s _ _ (count_shape s k.0 _) (finish_op_shape w _ t)
-
-pub sema_handed_shape : (w : Work) (s : State) (n : ℕ) (t : ℕ) (u : ℕ) (at : Put) → IsShaped s (sema_handed w s n t u at)
-unfolding sema_handed
-sema_handed_shape w s n t u at = then_shape s _ _ (woken_shape w s n u at) (finish_op_shape w _ t)
-
 pub cleared_shape : (s : State) (d : CpuId) (r : Option ℕ) → IsShaped s (cleared s d r)
 cleared_shape s d None = same_shape s
 cleared_shape s d (Some r) = set_kernel_mark_shape s d.0
-
-pub assigned_shape : (w : Work) (s : State) (t : ℕ) (d : CpuId) (to : SetId) (answer : AssignAnswer) → IsShaped s (assigned w s t d to answer)
-unfolding assigned
-assigned_shape w s t d to assign.Changed = then_shape s _ _ (close_shape s d to) (then_shape _ _ _ (cleared_shape _ d _) (finish_op_shape w _ t))
-assigned_shape w s t d to assign.EPERM = finish_op_shape w s t
-assigned_shape w s t d to assign.EINVAL = finish_op_shape w s t
-assigned_shape w s t d to assign.EBUSY = finish_op_shape w s t
-
-pub moved_shape : (w : Work) (s : State) (n : ℕ) (t : ℕ) (at : Put) → IsShaped s (moved w s n t at)
-unfolding moved
-moved_shape w s n t at = put_shape w s n t at
-
-pub joined_shape : (s : State) (c : CpuId) (to : SetId) → IsShaped s (joined s c to)
-unfolding joined
-joined_shape s c to = join_shape s c to
 
 pub called_back_shape : (s : State) (d : CpuId) (place : Place) → IsShaped s (called_back s d place)
 called_back_shape s d (Running c) = either_shape s _ _ (c.0 == d.0) (same_shape s) (set_kernel_mark_shape s c.0)
@@ -414,44 +303,50 @@ pbound_shape w s n t u d bind_answer.EINVAL = finish_op_shape w s t
 pbound_shape w s n t u d bind_answer.EPERM = finish_op_shape w s t
 pbound_shape w s n t u d bind_answer.EBUSY = finish_op_shape w s t
 
+pub deed_shape : (w : Work) (n : ℕ) (c : CpuId) (s : State) (d : Deed) → IsShaped s (did w n c s d)
+deed_shape w n c s CountsTick = count_tick_shape w s c.0
+deed_shape w n c s (RunsTick t) = run_tick_shape w s t
+deed_shape w n c s (CountsClass t) = class_counts_shape w s c.0 t
+deed_shape w n c s ClearsMarks = clear_marks_shape s c.0
+deed_shape w n c s LooksAgain = remark_shape s c.0
+deed_shape w n c s (ComesHere t) = run_on_shape s t c
+deed_shape w n c s (GoesTo t whither) = leave_shape s c.0 t _
+deed_shape w n c s (GoesBack t end) = preempted_shape w s n c t end
+deed_shape w n c s (GoesAway t d) = sent_away_shape s n c t d
+deed_shape w n c s (WakesUp t at) = woken_shape w s n t at
+deed_shape w n c s (WakesIf None) = same_shape s
+deed_shape w n c s (WakesIf (Some u)) = woken_shape w s n u.0.0 u.1
+deed_shape w n c s (PutsThread t at) = put_shape w s n t at
+deed_shape w n c s (EndsOp t) = finish_op_shape w s t
+deed_shape w n c s (TakesLock t l) = lock_shape s l.0 _
+deed_shape w n c s (ReadsLock l) = lock_shape s l.0 _
+deed_shape w n c s (HoldsLock t l) = hold_shape s t l
+deed_shape w n c s (FreesLock l) = release_from_shape w s c l (lock_of s l.0)
+deed_shape w n c s (LetsGo t l) = let_go_shape s t l
+deed_shape w n c s (FreesLast l) = unblocked_on_shape s c l _
+deed_shape w n c s (GrantsLock l u at) = granted_shape w s n c l u at (cpu_of s c.0).duty
+deed_shape w n c s (PassesLock l) = passed_shape s c l
+deed_shape w n c s (BeginsWalk t l) = set_duty_shape s c.0 _
+deed_shape w n c s (WalksOn l o at) = willed_shape w s n c l o at
+deed_shape w n c s EndsDuty = set_duty_shape s c.0 _
+deed_shape w n c s (OrdersWake k) = either_shape s _ _ _ (same_shape s) (set_duty_shape s c.0 _)
+deed_shape w n c s (Rouses k u) = roused_shape w s n c k u (cpu_of s c.0).duty
+deed_shape w n c s (Lifts t) = aged_shape w s n c t
+deed_shape w n c s (Reclasses t u (Changed p at)) = changed_on_shape w s n c t u at (op_of w t (thread_of s t).body)
+deed_shape w n c s (Reclasses t u (Refused denied)) = same_shape s
+deed_shape w n c s (TakesOne k) = count_shape s k.0 _
+deed_shape w n c s (CountsOne k) = count_shape s k.0 _
+deed_shape w n c s (MovesCpu d to assign.Changed) = then_shape s _ _ (close_shape s d to) (cleared_shape _ d _)
+deed_shape w n c s (MovesCpu d to _) = same_shape s
+deed_shape w n c s (JoinsSet to) = join_shape s c to
+deed_shape w n c s (BindsThread u d (bind_answer.Changed at)) = then_shape s _ _ (rebound_shape s u d _) (put_where_shape w _ n u at)
+deed_shape w n c s (BindsThread u d _) = same_shape s
+
+pub deeds_shape : (w : Work) (n : ℕ) (c : CpuId) (s : State) (ds : List Deed) → IsShaped s (all_did w n c s ds)
+deeds_shape w n c s ds = each_keeps w n c same_shape then_shape (deed_shape w n c) s ds
+
 pub effect_shape : (w : Work) (s : State) (n : ℕ) (c : CpuId) (e : Event) → IsShaped s (effect w s n c e)
-unfolding effect
-effect_shape w s n c (Tick t) = ticked_shape w s c.0 t.0
-effect_shape w s n c (Spin t l) = spun_shape w s c.0 t.0
-effect_shape w s n c Idle = idled_shape w s c.0
-effect_shape w s n c (Dispatch t p) = dispatched_shape s c t.0
-effect_shape w s n c (Steal v t p) = stolen_shape s c t.0
-effect_shape w s n c (Preempt t end) = preempted_shape w s n c t.0 end
-effect_shape w s n c (Away t d) = sent_away_shape s n c t.0 d
-effect_shape w s n c (Yield t) = yielded_shape w s n c t.0
-effect_shape w s n c (Done t) = done_shape s c t.0
-effect_shape w s n c (Nap t) = napped_shape w s c t.0
-effect_shape w s n c (Napend t at) = woken_shape w s n t.0 at
-effect_shape w s n c (Sleep t k) = fallen_asleep_shape w s n c t.0 k
-effect_shape w s n c (Wake t k u) = woke_shape w s n t.0 u
-effect_shape w s n c (Wakeall t k) = woke_all_shape w s n c t.0 k
-effect_shape w s n c (Rouse k u) = roused_shape w s n c k u (cpu_of s c.0).duty
-effect_shape w s n c (Enter t l) = owned_shape w s t.0 l
-effect_shape w s n c (Read t l) = read_shape w s t.0 l
-effect_shape w s n c (Write t l) = owned_shape w s t.0 l
-effect_shape w s n c (Block t l) = blocked_shape w s n c t.0 l
-effect_shape w s n c (Will l o p at) = willed_shape w s n c l o at
-effect_shape w s n c (WalkEnd l) = walk_ended_shape s c
-effect_shape w s n c (Exit t l) = exited_shape w s c t.0 l
-effect_shape w s n c (Unblock l u at) = unblocked_shape w s n c l u.0 at
-effect_shape w s n c (Grant l u at) = granted_shape w s n c l u.0 at (cpu_of s c.0).duty
-effect_shape w s n c (Passed l) = passed_shape s c l
-effect_shape w s n c (Age t p) = aged_shape w s n c t.0
-effect_shape w s n c (Prio t u answer) = reprioritised_shape w s n c t.0 u answer
-effect_shape w s n c (CvWait t k l) = cv_waited_shape w s n c t.0 k l
-effect_shape w s n c (SemaP t k) = sema_taken_shape w s t.0 k
-effect_shape w s n c (SemaWait t k) = fallen_asleep_shape w s n c t.0 k
-effect_shape w s n c (SemaVWake t k u at) = sema_handed_shape w s n t.0 u.0 at
-effect_shape w s n c (SemaVCount t k m) = sema_counted_shape w s t.0 k
-effect_shape w s n c (Assign t d to answer) = assigned_shape w s t.0 d to answer
-effect_shape w s n c (Move t at) = moved_shape w s n t.0 at
-effect_shape w s n c (Joined to) = joined_shape s c to
-effect_shape w s n c (Bind t u d answer) = pbound_shape w s n t.0 u.0 d answer
+effect_shape w s n c e = subst (λ r. IsShaped s r) (sym (effect_did w s n c e)) (deeds_shape w n c s (deeds e))
 
 pub after_shape : (w : Work) (s : State) (n : ℕ) (c : CpuId) (e : Event) → IsShaped s (after w s n c e)
 unfolding after drop_ageing

@@ -1,7 +1,7 @@
 -- Condition variables and semaphores: cvwait, semap, semawait, semav.
 -- Source: Solaris Internals (cv_wait, sema_p, sema_v); that a semaphore is handed to its best sleeper directly is this
 -- project's own.
-use Rattle.std.specs.Prelude.{ℕ, ◌+◌, ◌-◌, nat_le, Option, Some, None, if◌then◌else◌}
+use Rattle.std.specs.Prelude.{ℕ, ◌+◌, ◌-◌, Bool, nat_le, Option, Some, None, if◌then◌else◌}
 use Rattle.sd_types.specs.declared.numbers.ChanId.{ChanId}
 use Rattle.sd_types.specs.declared.numbers.CpuId.{CpuId}
 use Rattle.sd_types.specs.declared.numbers.LockId.{LockId}
@@ -22,8 +22,12 @@ use Rattle.sd_machine.specs.Locking.{released}
 unfoldable pub cv_waited : Work → State → ℕ → CpuId → ℕ → ChanId → LockId → State
 cv_waited w s n c t k l = fallen_asleep w (released w s c t l) n c t k
 
+-- where a token is there it is taken, else the thread falls asleep until one is handed to it
+abbrev pub sema_p_if : Bool → ℕ → ChanId → Event
+sema_p_if there t k = if there then event.SemaP (thread_id t) k else event.SemaWait (thread_id t) k
+
 abbrev pub sema_p_event : State → ℕ → ChanId → Event
-sema_p_event s t k = if nat_le 1 (count_of s k.0) then event.SemaP (thread_id t) k else event.SemaWait (thread_id t) k
+sema_p_event s t k = sema_p_if (nat_le 1 (count_of s k.0)) t k
 
 unfoldable pub sema_taken : Work → State → ℕ → ChanId → State
 sema_taken w s t k = finish_op w (with_count s k.0 (count_of s k.0 - 1)) t

@@ -4,6 +4,7 @@ pub mod Changes
 pub mod Choosing
 pub mod Conditions
 pub mod Cycles
+pub mod Deeds
 pub mod Dispatching
 pub mod Events
 pub mod Graphs
@@ -12,6 +13,7 @@ pub mod Holders
 pub mod Listing
 pub mod LockGraph
 pub mod Locking
+pub mod Names
 pub mod Needs
 pub mod Plans
 pub mod Prioritising

@@ -1,7 +1,7 @@
 -- What an event needs of the state in which it happens: that what it names is there, that its thread runs or that none does,
 -- and that there is room and numbers stay in their types. Each event that a processor may make in a state of a run has it.
 -- Source: this project's own.
-use Rattle.std.specs.Prelude.{◌≡◌, ℕ, ◌+◌, ◌<◌, ◌≤◌, ◌^◌, Bool, true, false, length, nat_lt, Option, Some, None, IfSome, IsTrue, ⊤}
+use Rattle.std.specs.Prelude.{◌≡◌, ℕ, ◌+◌, ◌<◌, ◌≤◌, ◌^◌, Bool, true, false, List, [], ◌∷◌, length, nat_lt, Option, Some, None, IfSome, IsTrue, ⊤}
 use Rattle.sd_types.specs.declared.numbers.ChanId.{ChanId}
 use Rattle.sd_types.specs.declared.numbers.CpuId.{CpuId}
 use Rattle.sd_types.specs.declared.numbers.LockId.{LockId}
@@ -176,8 +176,115 @@ pub record CanBeBound (s : State) (u : ThreadId) (d : Option CpuId) (answer : Bi
   pub before : IfSome (thread_of s u.0).body.bound (λ b. b.0 < length s.cpus)
   pub running : RunsThere s u
 
+-- One need, of the state before the event and of the processor that makes it.
+
+pub data Need : Type 0 where
+  -- what is there
+  Thread : ThreadId → Need
+  Lock : LockId → Need
+  Chan : ChanId → Need
+  Cpu : CpuId → Need
+  Set : SetId → Need
+  SetOf : CpuId → Need
+  At : Put → Need
+  AtIf : Option Put → Need
+  Woken : Option (ThreadId × Put) → Need
+  PlaceOf : ThreadId → Need
+  -- who runs
+  Acts : ThreadId → Need
+  Stays : ThreadId → Need
+  Nobody : Need
+  -- room, and numbers that fit
+  Ticks : Need
+  Naps : ThreadId → Need
+  Holds : ThreadId → LockId → Need
+  ReadsMore : LockId → Need
+  Inherits : ThreadId → LockId → Need
+  Receives : ThreadId → LockId → Need
+  Ages : ThreadId → Need
+  Counts : ChanId → Need
+  JoinsSet : SetId → Need
+  -- threads that others change
+  IsChanged : ThreadId → ThreadId → PrioAnswer → Need
+  IsBound : ThreadId → Option CpuId → BindAnswer → Need
+
+abbrev pub Met : Work → State → CpuId → Need → Type 0
+Met w s c (Thread t) = IsThread s t
+Met w s c (Lock l) = IsLock s l
+Met w s c (Chan k) = IsChan s k
+Met w s c (Cpu d) = IsCpu s d
+Met w s c (Set p) = IsSet s p
+Met w s c (SetOf d) = IsSet s (cpu_of s d.0).set
+Met w s c (At at) = IsPut s at
+Met w s c (AtIf at) = IsPutIf s at
+Met w s c (Woken u) = IsWoken s u
+Met w s c (PlaceOf t) = RunsThere s t
+Met w s c (Acts t) = CanAct w s t c
+Met w s c (Stays t) = Runs s t c
+Met w s c Nobody = RunsNobody s c
+Met w s c Ticks = CanTick w s c
+Met w s c (Naps t) = CanNap w s t c
+Met w s c (Holds t l) = CanHold s t l
+Met w s c (ReadsMore l) = more_fits (lock_of s l.0) ≡ true
+Met w s c (Inherits o l) = CanInherit s o l (greatest_waiting l.0 s.threads)
+Met w s c (Receives u l) = CanReceive w s u l
+Met w s c (Ages t) = t.0 + 1 < 2 ^ 16
+Met w s c (Counts k) = CanCount s k
+Met w s c (JoinsSet p) = CanJoin s p
+Met w s c (IsChanged t u answer) = CanBeChanged w s t u answer
+Met w s c (IsBound u d answer) = CanBeBound s u d answer
+
+-- all of them, as one product of up to five, and of the others behind them
+abbrev pub AllMet : Work → State → CpuId → List Need → Type 0
+AllMet w s c [] = ⊤
+AllMet w s c (a ∷ []) = Met w s c a
+AllMet w s c (a ∷ b ∷ []) = Met w s c a × Met w s c b
+AllMet w s c (a ∷ b ∷ d ∷ []) = Met w s c a × Met w s c b × Met w s c d
+AllMet w s c (a ∷ b ∷ d ∷ e ∷ []) = Met w s c a × Met w s c b × Met w s c d × Met w s c e
+AllMet w s c (a ∷ b ∷ d ∷ e ∷ f ∷ []) = Met w s c a × Met w s c b × Met w s c d × Met w s c e × Met w s c f
+AllMet w s c (a ∷ b ∷ d ∷ e ∷ f ∷ g ∷ rest) = Met w s c a × Met w s c b × Met w s c d × Met w s c e × Met w s c f × AllMet w s c (g ∷ rest)
+
 -- The table.
 
+abbrev pub asks : Event → List Need
+asks (Tick t) = Acts t ∷ Ticks ∷ []
+asks (Spin t l) = Stays t ∷ Lock l ∷ Ticks ∷ []
+asks Idle = Ticks ∷ []
+asks (Dispatch t p) = Thread t ∷ Nobody ∷ []
+asks (Steal v t p) = Thread t ∷ Nobody ∷ Cpu v ∷ []
+asks (Preempt t end) = Stays t ∷ []
+asks (Away t d) = Stays t ∷ Cpu d ∷ []
+asks (Yield t) = Acts t ∷ []
+asks (Done t) = Stays t ∷ []
+asks (Nap t) = Acts t ∷ Naps t ∷ []
+asks (Napend t at) = Thread t ∷ At at ∷ []
+asks (Sleep t k) = Acts t ∷ Chan k ∷ []
+asks (Wake t k u) = Acts t ∷ Chan k ∷ Woken u ∷ []
+asks (Wakeall t k) = Acts t ∷ Chan k ∷ []
+asks (Rouse k u) = Chan k ∷ Woken u ∷ []
+asks (Enter t l) = Acts t ∷ Lock l ∷ Holds t l ∷ []
+asks (Read t l) = Acts t ∷ Lock l ∷ Holds t l ∷ ReadsMore l ∷ []
+asks (Write t l) = Acts t ∷ Lock l ∷ Holds t l ∷ []
+asks (Block t l) = Stays t ∷ Lock l ∷ []
+asks (Will l o p at) = Thread o ∷ Lock l ∷ Inherits o l ∷ AtIf at ∷ PlaceOf o ∷ []
+asks (End l) = Lock l ∷ []
+asks (Exit t l) = Acts t ∷ Lock l ∷ []
+asks (Unblock l u at) = Thread u ∷ Lock l ∷ At at ∷ []
+asks (Grant l u at) = Lock l ∷ At at ∷ Receives u l ∷ []
+asks (Passed l) = Lock l ∷ []
+asks (Age t p) = Thread t ∷ Ages t ∷ []
+asks (Prio t u answer) = Acts t ∷ IsChanged t u answer ∷ []
+asks (CvWait t k l) = Acts t ∷ Chan k ∷ Lock l ∷ []
+asks (SemaP t k) = Acts t ∷ Chan k ∷ []
+asks (SemaWait t k) = Acts t ∷ Chan k ∷ []
+asks (SemaVWake t k u at) = Acts t ∷ Chan k ∷ Thread u ∷ At at ∷ []
+asks (SemaVCount t k m) = Acts t ∷ Chan k ∷ Counts k ∷ []
+asks (Assign t d to answer) = Acts t ∷ Cpu d ∷ Set to ∷ SetOf d ∷ []
+asks (Move t at) = Thread t ∷ At at ∷ []
+asks (Joined to) = Set to ∷ JoinsSet to ∷ []
+asks (Bind t u d answer) = Acts t ∷ IsBound u d answer ∷ []
+
+-- The same as a product by cases, which computes to the product of that list.
 abbrev pub Needs : Work → State → CpuId → Event → Type 0
 Needs w s c (Tick t) = CanAct w s t c × CanTick w s c
 Needs w s c (Spin t l) = Runs s t c × IsLock s l × CanTick w s c

@@ -2,7 +2,6 @@
 -- Source: this project's own.
 use Rattle.std.specs.Prelude.{ℕ, zero, suc, List, [], ◌∷◌, ◌++◌, length, flat_map, count_by, codes, decimal, Option, Some, None, option_map, unwrap_or, slice_get}
 use Rattle.sd_types.specs.declared.events.Event.{Event}
-use Rattle.sd_types.specs.declared.events.Event.TheVariants.{Tick, Spin, Idle, Dispatch, Steal, Preempt, Yield, Done, Nap, Napend, Sleep, Wake, Wakeall, Rouse, Enter, Read, Write, Block, Will, End as WalkEnd, Exit, Unblock, Grant, Passed, Age, Prio, CvWait, SemaP, SemaWait, SemaVWake, SemaVCount, Assign, Move, Joined, Bind, Away}
 use Rattle.sd_types.specs.declared.numbers.CpuId.{CpuId}
 use Rattle.sd_types.specs.declared.numbers.ThreadId.{ThreadId}
 use Rattle.sd_types.specs.declared.numbers.LockId.{LockId}
@@ -24,6 +23,7 @@ use Rattle.sd_state.specs.declared.states.Place.{Place}
 use Rattle.sd_state.specs.declared.states.Place.TheVariants.{Waiting}
 use Rattle.sd_state.specs.declared.states.State.{State}
 use Rattle.sd_state.specs.States.{thread_of}
+use Rattle.sd_machine.specs.Names.{Name, names, OfThread, OfLock, OfChan, OfCpu, OfCpuIf, OfSet, Priority, Count, AtEnd, At, AtIf, Whom, ByPrio, ByAssign, ByBind, Off}
 use Rattle.sd_machine.specs.Runs.{final}
 use Rattle.sd_state.specs.Opening.{opening}
 use Rattle.sd_machine.specs.Threads.{has_ended}
@@ -90,43 +90,32 @@ word_lock w word l = word ++ codes " " ++ lock_name w l.0
 abbrev pub word_chan : Work → List ℕ → ChanId → List ℕ
 word_chan w word k = word ++ codes " " ++ chan_name w k.0
 
+-- a text with a name behind it
+abbrev pub with_name : Work → List ℕ → Name → List ℕ
+with_name w text (OfThread t) = text ++ codes " " ++ thread_name w t.0
+with_name w text (OfLock l) = text ++ codes " " ++ lock_name w l.0
+with_name w text (OfChan k) = text ++ codes " " ++ chan_name w k.0
+with_name w text (OfCpu d) = text ++ codes " " ++ cpu_text d
+with_name w text (OfCpuIf d) = text ++ codes " " ++ cpu_text_if d
+with_name w text (OfSet p) = text ++ codes " " ++ set_name w p.0
+with_name w text (Priority p) = text ++ codes " " ++ decimal p
+with_name w text (Count n) = text ++ codes " " ++ decimal n
+with_name w text (AtEnd end) = text ++ end_text end
+with_name w text (At at) = text ++ put_text at
+with_name w text (AtIf at) = text ++ put_text_if at
+with_name w text (Whom u) = text ++ codes " " ++ woken_text w u
+with_name w text (ByPrio answer) = text ++ codes " " ++ prio_text answer
+with_name w text (ByAssign answer) = text ++ codes " " ++ assign_text answer
+with_name w text (ByBind answer) = text ++ codes " " ++ bind_text answer
+with_name w text (Off d) = text ++ codes " away " ++ cpu_text d
+
+abbrev pub text_with : Work → List ℕ → List Name → List ℕ
+text_with w text [] = text
+text_with w text (x ∷ xs) = text_with w (with_name w text x) xs
+
+-- its word, and behind it what it names, in order
 abbrev pub event_text : Work → Event → List ℕ
-event_text w (Tick t) = word_thread w (codes "tick") t
-event_text w (Spin t l) = word_lock w (word_thread w (codes "spin") t) l
-event_text w Idle = codes "idle"
-event_text w (Dispatch t p) = word_thread w (codes "dispatch") t ++ codes " " ++ decimal p
-event_text w (Steal v t p) = word_thread w (codes "steal " ++ cpu_text v) t ++ codes " " ++ decimal p
-event_text w (Preempt t end) = word_thread w (codes "preempt") t ++ end_text end
-event_text w (Yield t) = word_thread w (codes "yield") t
-event_text w (Done t) = word_thread w (codes "done") t
-event_text w (Nap t) = word_thread w (codes "nap") t
-event_text w (Napend t at) = word_thread w (codes "napend") t ++ put_text at
-event_text w (Sleep t k) = word_chan w (word_thread w (codes "sleep") t) k
-event_text w (Wake t k u) = word_chan w (word_thread w (codes "wake") t) k ++ codes " " ++ woken_text w u
-event_text w (Wakeall t k) = word_chan w (word_thread w (codes "wakeall") t) k
-event_text w (Rouse k u) = word_chan w (codes "rouse") k ++ codes " " ++ woken_text w u
-event_text w (Enter t l) = word_lock w (word_thread w (codes "enter") t) l
-event_text w (Read t l) = word_lock w (word_thread w (codes "read") t) l
-event_text w (Write t l) = word_lock w (word_thread w (codes "write") t) l
-event_text w (Block t l) = word_lock w (word_thread w (codes "block") t) l
-event_text w (Will l o p at) = word_thread w (word_lock w (codes "will") l) o ++ codes " " ++ decimal p ++ put_text_if at
-event_text w (WalkEnd l) = word_lock w (codes "end") l
-event_text w (Exit t l) = word_lock w (word_thread w (codes "exit") t) l
-event_text w (Unblock l u at) = word_thread w (word_lock w (codes "unblock") l) u ++ put_text at
-event_text w (Grant l u at) = word_thread w (word_lock w (codes "grant") l) u ++ put_text at
-event_text w (Passed l) = word_lock w (codes "passed") l
-event_text w (Age t p) = word_thread w (codes "age") t ++ codes " " ++ decimal p
-event_text w (Prio t u answer) = word_thread w (word_thread w (codes "prio") t) u ++ codes " " ++ prio_text answer
-event_text w (CvWait t k l) = word_lock w (word_chan w (word_thread w (codes "cvwait") t) k) l
-event_text w (SemaP t k) = word_chan w (word_thread w (codes "semap") t) k
-event_text w (SemaWait t k) = word_chan w (word_thread w (codes "semawait") t) k
-event_text w (SemaVWake t k u at) = word_thread w (word_chan w (word_thread w (codes "semav") t) k) u ++ put_text at
-event_text w (SemaVCount t k n) = word_chan w (word_thread w (codes "semav") t) k ++ codes " " ++ decimal n
-event_text w (Assign t d to answer) = word_thread w (codes "assign") t ++ codes " " ++ cpu_text d ++ codes " " ++ set_name w to.0 ++ codes " " ++ assign_text answer
-event_text w (Move t at) = word_thread w (codes "move") t ++ put_text at
-event_text w (Joined to) = codes "joined " ++ set_name w to.0
-event_text w (Bind t u d answer) = word_thread w (word_thread w (codes "pbind") t) u ++ codes " " ++ cpu_text_if d ++ codes " " ++ bind_text answer
-event_text w (Away t d) = word_thread w (codes "preempt") t ++ codes " away " ++ cpu_text d
+event_text w e = text_with w (names e).0 (names e).1
 
 -- the numbers that were read, joined by commas
 abbrev pub numbers_text : List ℕ → List ℕ

@@ -18,7 +18,7 @@
 -- A chain may be closed: a owns l and waits for m, b owns m and waits for l. A walk seeks the wait with the greatest key that it
 -- has met, which is the last one that began. Where it comes back to that wait, the chain behind it is a blocking cycle; the
 -- thread that waits there is marked as looped, and this walk and every later one ends at it, so that none goes round for ever.
-use Rattle.std.specs.Prelude.{ℕ, Bool, false, ◌&&◌, ◌||◌, ◌==◌, int_lt, Option, if◌then◌else◌}
+use Rattle.std.specs.Prelude.{ℤ, Some, None, ℕ, Bool, false, ◌&&◌, ◌||◌, ◌==◌, int_lt, Option, if◌then◌else◌}
 use Rattle.std.specs.Ordering.{int_eq}
 use Rattle.sd_types.specs.declared.numbers.CpuId.{CpuId}
 use Rattle.sd_types.specs.declared.numbers.LockId.{LockId}
@@ -56,17 +56,28 @@ abbrev pub walk_plan : State → LockId → LockState → Plan
 walk_plan s l (Owned o) = will_plan s l o (inherited_priority s l o.0)
 walk_plan s l _ = Make (event.End l)
 
--- the walk has come back to the thread that it seeks
-abbrev pub is_back : Duty → ThreadId → Place → Bool
-is_back (Walk l seek key) o (Waiting m side k) = (seek.0 == o.0) && int_eq key k
-is_back _ o _ = false
+-- the lock for which one waits at a place, with the key
+abbrev pub waits_at : Place → Option (LockId × ℤ)
+waits_at (Waiting m side k) = Some (m, k)
+waits_at _ = None
 
--- where the walk goes from the owner o, which is looped or not, at a place: it ends at one that does not wait, at one that
--- is looped and at the one that it seeks; it seeks an owner with a greater key from there on
+-- the walk has come back to the thread that it seeks, at the owner o who waits with a key
+abbrev pub is_back_at : Duty → ThreadId → Option (LockId × ℤ) → Bool
+is_back_at (Walk l seek key) o (Some m) = (seek.0 == o.0) && int_eq key m.1
+is_back_at _ o _ = false
+
+-- where the walk goes from the owner o, which is looped or not: it ends at one that does not wait, at one that is looped and at
+-- the one that it seeks; it seeks an owner with a greater key from there on
+abbrev pub next_walk_at : Duty → ThreadId → Bool → Option (LockId × ℤ) → Duty
+next_walk_at (Walk l seek key) o looped (Some m) =
+    if looped || ((seek.0 == o.0) && int_eq key m.1) then Nothing else if int_lt key m.1 then Walk m.0 o m.1 else Walk m.0 seek key
+next_walk_at _ o looped _ = Nothing
+
+abbrev pub is_back : Duty → ThreadId → Place → Bool
+is_back duty o place = is_back_at duty o (waits_at place)
+
 abbrev pub next_walk : Duty → ThreadId → Bool → Place → Duty
-next_walk (Walk l seek key) o looped (Waiting m side k) =
-    if looped || ((seek.0 == o.0) && int_eq key k) then Nothing else if int_lt key k then Walk m o k else Walk m seek key
-next_walk _ o looped _ = Nothing
+next_walk duty o looped place = next_walk_at duty o looped (waits_at place)
 
 -- the owner o with its number for the lock, and the duty of the walk
 abbrev pub walked : State → CpuId → LockId → ThreadId → State

@@ -1,6 +1,8 @@
 -- An entry that a processor makes in a state of a run has a line of its own.
-use Rattle.std.proofs.Common.{◌≡◌, ℕ, ◌<◌, ◌^◌, true, length, Option, Some, None, refl, sym, subst, arith}
+use Rattle.std.proofs.Common.{◌≡◌, ℕ, ◌<◌, ◌^◌, Bool, true, ◌&&◌, List, [], ◌∷◌, length, Option, Some, None, refl, sym, subst, arith}
 use Rattle.std.specs.Prelude.{IfSome, nat_lt, IsTrue}
+use Rattle.std.specs.List.{list_all}
+use Rattle.std.proofs.lemmas.Bool.{and_from}
 use Rattle.std.proofs.lemmas.Bool.Decides.{nat_tests}
 use Rattle.sd_types.specs.declared.numbers.CpuId.{CpuId}
 use Rattle.sd_types.specs.declared.numbers.ChanId.{ChanId}
@@ -11,7 +13,7 @@ use Rattle.sd_types.specs.declared.bodies.ThreadBody.{ThreadBody}
 use Rattle.sd_types.specs.declared.events.BindAnswer.{BindAnswer}
 use Rattle.sd_types.specs.declared.events.BindAnswer.TheVariants as bind
 use Rattle.sd_types.specs.declared.events.Event.{Event}
-use Rattle.sd_types.specs.declared.events.Event.TheVariants.{Tick, Spin, Idle, Dispatch, Steal, Preempt, Yield, Done, Nap, Napend, Sleep, Wake, Wakeall, Rouse, Enter, Read, Write, Block, Will, End as WalkEnd, Exit, Unblock, Grant, Passed, Age, Prio, CvWait, SemaP, SemaWait, SemaVWake, SemaVCount, Assign, Move, Joined, Bind, Away}
+use Rattle.sd_types.specs.declared.events.Event.TheVariants.{Dispatch, Steal, Will, Age, Prio, SemaVCount}
 use Rattle.sd_types.specs.declared.events.Entry.{Entry}
 use Rattle.sd_types.specs.declared.events.PrioAnswer.{PrioAnswer}
 use Rattle.sd_types.specs.declared.events.PrioAnswer.TheVariants.{Changed, Refused}
@@ -25,12 +27,14 @@ use Rattle.sd_types.proofs.WilledLemmas.{sound-with, sound-without}
 use Rattle.sd_state.specs.declared.states.State.{State}
 use Rattle.sd_state.specs.States.{thread_of, eff_of}
 use Rattle.sd_machine.specs.Bodies.{aged_class}
+use Rattle.sd_machine.specs.Names.{Name, names, OfThread, OfLock, OfChan, OfCpu, OfCpuIf, OfSet, Priority, At, AtIf, Whom, ByPrio, ByBind, Off}
 use Rattle.sd_machine.specs.Needs.{IsPut, IsPutIf, IsWoken, IsPrioPut, IsBindPut, CanInherit, Needs}
 use Rattle.sd_machine.specs.Prioritising.{new_class}
 use Rattle.sd_machine.specs.Shapes.{FitsFully}
 use Rattle.sd_machine.specs.Threads.{greatest_waiting}
 use Rattle.sd_machine.specs.Walking.{inherited_priority}
 use Rattle.sd_machine.specs.Runs.{IsReached, IsStep}
+use Rattle.sd_machine.proofs.NameLemmas.{IsThere, AreThere, names_there}
 use Rattle.sd_frames.specs.Causes.{IsCause}
 use Rattle.sd_invariants.proofs.BaseLemmas.{age_below, new_below}
 use Rattle.sd_invariants.proofs.NumberLemmas.{AreFine, fine_eff}
@@ -38,7 +42,7 @@ use Rattle.sd_invariants.proofs.FineLemmas.{fine_reached}
 use Rattle.sd_invariants.proofs.Ready.{ready_cause, reached_ready, maker_inside}
 use Rattle.sd_invariants.proofs.Places.{threads_have_cpus}
 use Rattle.sd_invariants.proofs.Range.{needs_reached}
-use Rattle.sd_entries.specs.Fitting.{has_cpu, has_thread, has_lock, has_chan, has_set, put_fits, put_fits_if, woken_fits, cpu_fits_if, prio_fits, bind_fits, event_fits, entry_fits, is_byte, prio_in_range, event_in_range, hints_in_range, in_range, IsSpelled}
+use Rattle.sd_entries.specs.Fitting.{has_cpu, has_thread, has_lock, has_chan, has_set, put_fits, put_fits_if, woken_fits, cpu_fits_if, prio_fits, bind_fits, name_fits, event_fits, entry_fits, is_byte, prio_in_range, event_in_range, hints_in_range, in_range, IsSpelled}
 use Rattle.sd_program.proofs.PlanLemmas.{IsTold, tells, reads_rightly}
 
 -- All that an event names is the workload's.
@@ -86,46 +90,35 @@ module _ (w : Work) (s : State) (fits : FitsFully w s) where
   bind_ok bind.EINVAL inside = refl
   bind_ok bind.EBUSY inside = refl
 
+  name_ok : (x : Name) → IsThere s x → name_fits w x ≡ true
+  name_ok (OfThread t) is = thread_ok t is
+  name_ok (OfLock l) is = lock_ok l is
+  name_ok (OfChan k) is = chan_ok k is
+  name_ok (OfCpu d) is = cpu_ok d is
+  name_ok (OfCpuIf d) is = cpu_ok_if d is
+  name_ok (OfSet p) is = set_ok p is
+  name_ok (At at) is = put_ok at is
+  name_ok (AtIf at) is = put_ok_if at is
+  name_ok (Whom u) is = woken_ok u is
+  name_ok (ByPrio answer) is = prio_ok answer is
+  name_ok (ByBind answer) is = bind_ok answer is
+  name_ok (Off d) is = cpu_ok d is
+  name_ok (Priority p) is = refl
+  name_ok _ is = refl
+
+  names_ok : (xs : List Name) → AreThere s xs → list_all (name_fits w) xs ≡ true
+  names_ok [] are = refl
+  names_ok (x ∷ xs) are = and_from (name_fits w x) (list_all (name_fits w) xs) (name_ok x are.0) (names_ok xs are.1)
+
   pub event_ok : (c : CpuId) (e : Event) → Needs w s c e → event_fits w e ≡ true
   unfolding event_fits
-  event_ok c (Tick t) n = thread_ok t n.0.thread
-  event_ok c (Spin t l) n = rw (thread_ok t n.0.thread, lock_ok l n.1) refl
-  event_ok c Idle n = refl
-  event_ok c (Dispatch t p) n = thread_ok t n.0
-  event_ok c (Steal v t p) n = rw (cpu_ok v n.2, thread_ok t n.0) refl
-  event_ok c (Preempt t end) n = thread_ok t n.thread
-  event_ok c (Away t d) n = rw (thread_ok t n.0.thread, cpu_ok d n.1) refl
-  event_ok c (Yield t) n = thread_ok t n.thread
-  event_ok c (Done t) n = thread_ok t n.thread
-  event_ok c (Nap t) n = thread_ok t n.0.thread
-  event_ok c (Napend t at) n = rw (thread_ok t n.0, put_ok at n.1) refl
-  event_ok c (Sleep t k) n = rw (thread_ok t n.0.thread, chan_ok k n.1) refl
-  event_ok c (Wake t k u) n = rw (thread_ok t n.0.thread, chan_ok k n.1, woken_ok u n.2) refl
-  event_ok c (Wakeall t k) n = rw (thread_ok t n.0.thread, chan_ok k n.1) refl
-  event_ok c (Rouse k u) n = rw (chan_ok k n.0, woken_ok u n.1) refl
-  event_ok c (Enter t l) n = rw (thread_ok t n.0.thread, lock_ok l n.1) refl
-  event_ok c (Read t l) n = rw (thread_ok t n.0.thread, lock_ok l n.1) refl
-  event_ok c (Write t l) n = rw (thread_ok t n.0.thread, lock_ok l n.1) refl
-  event_ok c (Block t l) n = rw (thread_ok t n.0.thread, lock_ok l n.1) refl
-  event_ok c (Will l o p at) n = rw (lock_ok l n.1, thread_ok o n.0, put_ok_if at n.3) refl
-  event_ok c (WalkEnd l) n = lock_ok l n
-  event_ok c (Exit t l) n = rw (thread_ok t n.0.thread, lock_ok l n.1) refl
-  event_ok c (Unblock l u at) n = rw (lock_ok l n.1, thread_ok u n.0, put_ok at n.2) refl
-  event_ok c (Grant l u at) n = rw (lock_ok l n.0, thread_ok u n.2.thread, put_ok at n.1) refl
-  event_ok c (Passed l) n = lock_ok l n
-  event_ok c (Age t p) n = thread_ok t n.0
-  event_ok c (Prio t u answer) n = rw (thread_ok t n.0.thread, thread_ok u n.1.thread, prio_ok answer n.1.put) refl
-  event_ok c (CvWait t k l) n = rw (thread_ok t n.0.thread, chan_ok k n.1, lock_ok l n.2) refl
-  event_ok c (SemaP t k) n = rw (thread_ok t n.0.thread, chan_ok k n.1) refl
-  event_ok c (SemaWait t k) n = rw (thread_ok t n.0.thread, chan_ok k n.1) refl
-  event_ok c (SemaVWake t k u at) n = rw (thread_ok t n.0.thread, chan_ok k n.1, thread_ok u n.2, put_ok at n.3) refl
-  event_ok c (SemaVCount t k m) n = rw (thread_ok t n.0.thread, chan_ok k n.1) refl
-  event_ok c (Assign t d to answer) n = rw (thread_ok t n.0.thread, cpu_ok d n.1, set_ok to n.2) refl
-  event_ok c (Move t at) n = rw (thread_ok t n.0, put_ok at n.1) refl
-  event_ok c (Joined to) n = set_ok to n.0
-  event_ok c (Bind t u d answer) n = rw (thread_ok t n.0.thread, thread_ok u n.1.thread, cpu_ok_if d n.1.cpu, bind_ok answer n.1.put) refl
+  event_ok c e n = names_ok (names e).1 (names_there w s c e n)
 
 -- Its numbers have as many bits as their types.
+
+-- what is one of a list beside others that tell no number
+alone : {b : Bool} → b ≡ true → (b && true) ≡ true
+alone {b} h = and_from b true h refl
 
 byte_ok : (p : ℕ) → p < 160 → is_byte p ≡ true
 byte_ok p less = grind (arith, nat_tests)
@@ -152,15 +145,15 @@ module _ (w : Work) (s : State) (c : CpuId) (fine : AreFine s) where
       (greatest-below (base_of (new_class w s u.0 answered.0)) 160 b.willed.items (new_below w s t.0 u.0 cause.0 answered.0 answered.1) (fine u.0).sound.below))
 
   pub numbers_ok : (e : Event) → IsCause w s c.0 e → IsTold w s e → Needs w s c e → event_in_range e ≡ true
-  numbers_ok (Dispatch t p) cause told n = subst (λ (p : ℕ). is_byte p ≡ true) (sym told) (byte_ok (eff_of s t.0) (fine_eff (thread_of s t.0) (fine t.0)))
-  numbers_ok (Steal v t p) cause told n = subst (λ (p : ℕ). is_byte p ≡ true) (sym told) (byte_ok (eff_of s t.0) (fine_eff (thread_of s t.0) (fine t.0)))
+  numbers_ok (Dispatch t p) cause told n = alone (subst (λ (p : ℕ). is_byte p ≡ true) (sym told) (byte_ok (eff_of s t.0) (fine_eff (thread_of s t.0) (fine t.0))))
+  numbers_ok (Steal v t p) cause told n = alone (subst (λ (p : ℕ). is_byte p ≡ true) (sym told) (byte_ok (eff_of s t.0) (fine_eff (thread_of s t.0) (fine t.0))))
   numbers_ok (Age t p) cause told n =
       let b = (thread_of s t.0).body in
-      subst (λ (p : ℕ). is_byte p ≡ true) (sym told)
-      (byte_ok (eff_as (aged_class w b.class) b) (greatest-below (base_of (aged_class w b.class)) 160 b.willed.items (age_below w b.class (fine t.0).base) (fine t.0).sound.below))
-  numbers_ok (Will l o p at) cause told n = subst (λ (p : ℕ). is_byte p ≡ true) (sym cause.2) (byte_ok (inherited_priority s l o.0) (inherited_below s l o fine n.2))
-  numbers_ok (Prio t u answer) cause told n = prio_byte t u answer cause
-  numbers_ok (SemaVCount t k m) cause told n = let small = n.2 in let is = cause.2 in grind (arith, nat_tests)
+      alone (subst (λ (p : ℕ). is_byte p ≡ true) (sym told)
+      (byte_ok (eff_as (aged_class w b.class) b) (greatest-below (base_of (aged_class w b.class)) 160 b.willed.items (age_below w b.class (fine t.0).base) (fine t.0).sound.below)))
+  numbers_ok (Will l o p at) cause told n = alone (subst (λ (p : ℕ). is_byte p ≡ true) (sym cause.2) (byte_ok (inherited_priority s l o.0) (inherited_below s l o fine n.2)))
+  numbers_ok (Prio t u answer) cause told n = alone (prio_byte t u answer cause)
+  numbers_ok (SemaVCount t k m) cause told n = let small = n.2 in let is = cause.2 in let low : nat_lt m (2 ^ 32) ≡ true = grind (arith, nat_tests) in alone low
   numbers_ok e cause told n = refl
 
 pub spelled : (w : Work) (n : ℕ) (s : State) (e : Entry) → IsReached w n s → IsStep w s e → e.number < 2 ^ 64 → IsTrue (hints_in_range e.hints) → IsSpelled w e

@@ -1,18 +1,15 @@
 -- The line of an entry has one newline, at its end: neither a name nor a number has any.
-use Rattle.std.proofs.Common.{◌≡◌, ℕ, zero, suc, true, ◌&&◌, List, [], ◌∷◌, ◌++◌, length, leb, Option, Some, None, refl, ◌∙◌}
+use Rattle.std.proofs.Common.{◌≡◌, ℕ, zero, suc, true, ◌&&◌, List, [], ◌∷◌, ◌++◌, length, leb, Option, Some, None, refl}
 use Rattle.std.proofs.lemmas.Bool.{and_parts}
 use Rattle.std.specs.Prelude.{codes, decimal, option_map, unwrap_or, slice_get}
 use Rattle.std.specs.List.{list_all}
-use Rattle.std.proofs.lemmas.List.Folds.{list_all-append}
 use Rattle.sd_types.specs.declared.names.Name.{Name}
 use Rattle.sd_types.specs.declared.numbers.CpuId.{CpuId}
 use Rattle.sd_types.specs.declared.numbers.ThreadId.{ThreadId}
-use Rattle.sd_types.specs.declared.numbers.LockId.{LockId}
-use Rattle.sd_types.specs.declared.numbers.ChanId.{ChanId}
 use Rattle.sd_types.specs.declared.events.End.{End}
 use Rattle.sd_types.specs.declared.events.End.TheVariants.{Front, Back}
 use Rattle.sd_types.specs.declared.events.Event.{Event}
-use Rattle.sd_types.specs.declared.events.Event.TheVariants.{Tick, Spin, Idle, Dispatch, Steal, Preempt, Yield, Done, Nap, Napend, Sleep, Wake, Wakeall, Rouse, Enter, Read, Write, Block, Will, End as WalkEnd, Exit, Unblock, Grant, Passed, Age, Prio, CvWait, SemaP, SemaWait, SemaVWake, SemaVCount, Assign, Move, Joined, Bind, Away}
+use Rattle.sd_types.specs.declared.events.Event.TheVariants.{Tick}
 use Rattle.sd_types.specs.declared.events.Put.{Put}
 use Rattle.sd_types.specs.declared.events.Put.TheVariants.{Cpu, RealTime}
 use Rattle.sd_types.specs.declared.events.Hints.{Hints}
@@ -31,7 +28,8 @@ use Rattle.sd_text.specs.Lines.{is_line, IsOneLine}
 use Rattle.sd_text.proofs.NumberLemmas.{decimal-line}
 use Rattle.sd_text.proofs.PieceLemmas.{one_line-append, one_line-newline}
 use Rattle.sd_state.specs.Texts.{thread_name, lock_name, chan_name, end_text}
-use Rattle.sd_machine.specs.Texts.{set_name, cpu_text, put_text, put_text_if, woken_text, denied_text, prio_text, assign_text, bind_text, cpu_text_if, word_thread, word_lock, word_chan, event_text, numbers_text, hints_text, entry_text}
+use Rattle.sd_machine.specs.Names.{Name as EventName, names, OfThread, OfLock, OfChan, OfCpu, OfCpuIf, OfSet, Priority, Count, AtEnd, At, AtIf, Whom, ByPrio, ByAssign, ByBind, Off}
+use Rattle.sd_machine.specs.Texts.{set_name, cpu_text, put_text, put_text_if, woken_text, denied_text, prio_text, assign_text, bind_text, cpu_text_if, with_name, text_with, event_text, numbers_text, hints_text, entry_text}
 use Rattle.sd_program.specs.AuditAnswers.{legal_text}
 use Rattle.sd_entries.proofs.WordLemmas.{line_join}
 use Rattle.sd_entries.proofs.PlainLemmas.{no_newlines}
@@ -111,79 +109,39 @@ module _ (w : Work) where
   set-line zero = refl
   set-line (suc p) = named-line (λ d. d.0) (slice_get w.sets p)
 
-  on-thread : (word : List ℕ) (t : ThreadId) → is_line word ≡ true → is_line (word_thread w word t) ≡ true
-  on-thread word t h = spaced word (thread_name w t.0) h (thread-line t.0)
-
-  on-lock : (word : List ℕ) (l : LockId) → is_line word ≡ true → is_line (word_lock w word l) ≡ true
-  on-lock word l h = spaced word (lock_name w l.0) h (named-line (λ d. d.0) (slice_get w.locks l.0))
-
-  on-chan : (word : List ℕ) (k : ChanId) → is_line word ≡ true → is_line (word_chan w word k) ≡ true
-  on-chan word k h = spaced word (chan_name w k.0) h (named-line (λ d. d.0) (slice_get w.chans k.0))
-
   woken-line : (u : Option (ThreadId × Put)) → is_line (woken_text w u) ≡ true
   woken-line None = refl
   woken-line (Some u) = line_join (thread_name w u.0.0) (put_text u.1) (thread-line u.0.0) (put-line u.1)
 
+  -- a text with a name behind it
+  with_name-line : (text : List ℕ) (x : EventName) → is_line text ≡ true → is_line (with_name w text x) ≡ true
+  with_name-line text (OfThread t) h = spaced text (thread_name w t.0) h (thread-line t.0)
+  with_name-line text (OfLock l) h = spaced text (lock_name w l.0) h (named-line (λ d. d.0) (slice_get w.locks l.0))
+  with_name-line text (OfChan k) h = spaced text (chan_name w k.0) h (named-line (λ d. d.0) (slice_get w.chans k.0))
+  with_name-line text (OfCpu d) h = spaced text (cpu_text d) h (cpu-line d)
+  with_name-line text (OfCpuIf d) h = spaced text (cpu_text_if d) h (cpu_if-line d)
+  with_name-line text (OfSet p) h = spaced text (set_name w p.0) h (set-line p.0)
+  with_name-line text (Priority p) h = spaced text (decimal p) h (decimal-line p)
+  with_name-line text (Count n) h = spaced text (decimal n) h (decimal-line n)
+  with_name-line text (AtEnd end) h = line_join text (end_text end) h (end-line end)
+  with_name-line text (At at) h = line_join text (put_text at) h (put-line at)
+  with_name-line text (AtIf at) h = line_join text (put_text_if at) h (put_if-line at)
+  with_name-line text (Whom u) h = spaced text (woken_text w u) h (woken-line u)
+  with_name-line text (ByPrio answer) h = spaced text (prio_text answer) h (prio-line answer)
+  with_name-line text (ByAssign answer) h = spaced text (assign_text answer) h (assign-line answer)
+  with_name-line text (ByBind answer) h = spaced text (bind_text answer) h (bind-line answer)
+  with_name-line text (Off d) h = line_join (text ++ codes " away ") (cpu_text d) (line_join text (codes " away ") h refl) (cpu-line d)
+
+  text_with-line : (text : List ℕ) (xs : List EventName) → is_line text ≡ true → is_line (text_with w text xs) ≡ true
+  text_with-line text [] h = h
+  text_with-line text (x ∷ xs) h = text_with-line (with_name w text x) xs (with_name-line text x h)
+
+  word-line : (e : Event) → is_line (names e).0 ≡ true
+  word-line (Tick t) = refl
+  word-line _ = refl
+
   event-line : (e : Event) → is_line (event_text w e) ≡ true
-  event-line (Tick t) = on-thread (codes "tick") t refl
-  event-line (Spin t l) = on-lock (word_thread w (codes "spin") t) l (on-thread (codes "spin") t refl)
-  event-line Idle = refl
-  event-line (Dispatch t p) = spaced (word_thread w (codes "dispatch") t) (decimal p) (on-thread (codes "dispatch") t refl) (decimal-line p)
-  event-line (Steal v t p) =
-      let word = codes "steal " ++ cpu_text v in
-      spaced (word_thread w word t) (decimal p) (on-thread word t (line_join (codes "steal ") (cpu_text v) refl (cpu-line v))) (decimal-line p)
-  event-line (Preempt t end) = line_join (word_thread w (codes "preempt") t) (end_text end) (on-thread (codes "preempt") t refl) (end-line end)
-  event-line (Yield t) = on-thread (codes "yield") t refl
-  event-line (Done t) = on-thread (codes "done") t refl
-  event-line (Nap t) = on-thread (codes "nap") t refl
-  event-line (Napend t at) = line_join (word_thread w (codes "napend") t) (put_text at) (on-thread (codes "napend") t refl) (put-line at)
-  event-line (Sleep t k) = on-chan (word_thread w (codes "sleep") t) k (on-thread (codes "sleep") t refl)
-  event-line (Wake t k u) =
-      spaced (word_chan w (word_thread w (codes "wake") t) k) (woken_text w u) (on-chan (word_thread w (codes "wake") t) k (on-thread (codes "wake") t refl)) (woken-line u)
-  event-line (Wakeall t k) = on-chan (word_thread w (codes "wakeall") t) k (on-thread (codes "wakeall") t refl)
-  event-line (Rouse k u) = spaced (word_chan w (codes "rouse") k) (woken_text w u) (on-chan (codes "rouse") k refl) (woken-line u)
-  event-line (Enter t l) = on-lock (word_thread w (codes "enter") t) l (on-thread (codes "enter") t refl)
-  event-line (Read t l) = on-lock (word_thread w (codes "read") t) l (on-thread (codes "read") t refl)
-  event-line (Write t l) = on-lock (word_thread w (codes "write") t) l (on-thread (codes "write") t refl)
-  event-line (Block t l) = on-lock (word_thread w (codes "block") t) l (on-thread (codes "block") t refl)
-  event-line (Will l o p at) =
-      let word = word_thread w (word_lock w (codes "will") l) o in
-      line_join (word ++ codes " " ++ decimal p) (put_text_if at)
-      (spaced word (decimal p) (on-thread (word_lock w (codes "will") l) o (on-lock (codes "will") l refl)) (decimal-line p)) (put_if-line at)
-  event-line (WalkEnd l) = on-lock (codes "end") l refl
-  event-line (Exit t l) = on-lock (word_thread w (codes "exit") t) l (on-thread (codes "exit") t refl)
-  event-line (Unblock l u at) =
-      line_join (word_thread w (word_lock w (codes "unblock") l) u) (put_text at) (on-thread (word_lock w (codes "unblock") l) u (on-lock (codes "unblock") l refl)) (put-line at)
-  event-line (Grant l u at) =
-      line_join (word_thread w (word_lock w (codes "grant") l) u) (put_text at) (on-thread (word_lock w (codes "grant") l) u (on-lock (codes "grant") l refl)) (put-line at)
-  event-line (Passed l) = on-lock (codes "passed") l refl
-  event-line (Age t p) = spaced (word_thread w (codes "age") t) (decimal p) (on-thread (codes "age") t refl) (decimal-line p)
-  event-line (Prio t u answer) =
-      spaced (word_thread w (word_thread w (codes "prio") t) u) (prio_text answer) (on-thread (word_thread w (codes "prio") t) u (on-thread (codes "prio") t refl)) (prio-line answer)
-  event-line (CvWait t k l) =
-      on-lock (word_chan w (word_thread w (codes "cvwait") t) k) l (on-chan (word_thread w (codes "cvwait") t) k (on-thread (codes "cvwait") t refl))
-  event-line (SemaP t k) = on-chan (word_thread w (codes "semap") t) k (on-thread (codes "semap") t refl)
-  event-line (SemaWait t k) = on-chan (word_thread w (codes "semawait") t) k (on-thread (codes "semawait") t refl)
-  event-line (SemaVWake t k u at) =
-      let word = word_chan w (word_thread w (codes "semav") t) k in
-      line_join (word_thread w word u) (put_text at) (on-thread word u (on-chan (word_thread w (codes "semav") t) k (on-thread (codes "semav") t refl))) (put-line at)
-  event-line (SemaVCount t k n) =
-      let word = word_chan w (word_thread w (codes "semav") t) k in
-      spaced word (decimal n) (on-chan (word_thread w (codes "semav") t) k (on-thread (codes "semav") t refl)) (decimal-line n)
-  event-line (Assign t d to answer) =
-      let word = word_thread w (codes "assign") t in
-      let cpu = spaced word (cpu_text d) (on-thread (codes "assign") t refl) (cpu-line d) in
-      spaced (word ++ codes " " ++ cpu_text d ++ codes " " ++ set_name w to.0) (assign_text answer)
-      (spaced (word ++ codes " " ++ cpu_text d) (set_name w to.0) cpu (set-line to.0)) (assign-line answer)
-  event-line (Move t at) = line_join (word_thread w (codes "move") t) (put_text at) (on-thread (codes "move") t refl) (put-line at)
-  event-line (Joined to) = line_join (codes "joined ") (set_name w to.0) refl (set-line to.0)
-  event-line (Bind t u d answer) =
-      let word = word_thread w (word_thread w (codes "pbind") t) u in
-      spaced (word ++ codes " " ++ cpu_text_if d) (bind_text answer)
-      (spaced word (cpu_text_if d) (on-thread (word_thread w (codes "pbind") t) u (on-thread (codes "pbind") t refl)) (cpu_if-line d)) (bind-line answer)
-  event-line (Away t d) =
-      let word = word_thread w (codes "preempt") t in
-      line_join (word ++ codes " away ") (cpu_text d) (line_join word (codes " away ") (on-thread (codes "preempt") t refl) refl) (cpu-line d)
+  event-line e = text_with-line (names e).0 (names e).1 (word-line e)
 
   -- the line of an entry
   pub entry-one_line : (e : Entry) → IsOneLine (entry_text w e)

@@ -48,7 +48,7 @@ use Rattle.sd_machine.specs.Locking.{owner_runs, enter_event, read_event, write_
 use Rattle.sd_machine.specs.Requeueing.{requeue_plan}
 use Rattle.sd_machine.specs.Walking.{inherited_priority, walk_plan}
 use Rattle.sd_machine.specs.Prioritising.{answer_to, new_class, prio_plan, age_plan}
-use Rattle.sd_machine.specs.Conditions.{sema_v_plan}
+use Rattle.sd_machine.specs.Conditions.{sema_p_if, sema_v_plan}
 use Rattle.sd_machine.specs.SetChanges.{closing_plan}
 use Rattle.sd_machine.specs.Plans.{first_of, duty_plan_of, duty_plan, nap_plan, ageing_plan_of, ageing_plan, op_plan, run_plan_of, run_plan, free_plan_of, cpu_plan_of, cpu_plan, or_plan, plan}
 use Rattle.sd_machine.specs.Events.{event_of, plan_event, wish, may_tick, allowed, next}
@@ -155,6 +155,10 @@ module _ (w : Work) (s : State) (c : ℕ) where
   sema_v_told t k None = tt
   sema_v_told t k (Some u) = tt
 
+  sema_p_told : (t : ℕ) (k : ChanId) (b : Bool) → IsTold w s (sema_p_if b t k)
+  sema_p_told t k true = tt
+  sema_p_told t k false = tt
+
   two_told : (b : Bool) (e f : Event) → IsTold w s e → IsTold w s f → IsTold w s (if b then e else f)
   two_told true e f p q = p
   two_told false e f p q = q
@@ -196,7 +200,7 @@ module _ (w : Work) (s : State) (c : ℕ) where
   op_told t (Some (op.Exit l)) = tt
   op_told t (Some (op.Prio u r)) = prio_told t u (answer_to w s t u.0 r)
   op_told t (Some (op.CvWait k l)) = tt
-  op_told t (Some (op.SemaP k)) = two_told (nat_le 1 (count_of s k.0)) (event.SemaP (thread_id t) k) (event.SemaWait (thread_id t) k) tt tt
+  op_told t (Some (op.SemaP k)) = sema_p_told t k (nat_le 1 (count_of s k.0))
   op_told t (Some (op.SemaV k)) = sema_v_told t k (best_sleeper s k.0)
   op_told t (Some (op.Assign d to)) = tt
   op_told t (Some (op.Pbind u d)) = tt

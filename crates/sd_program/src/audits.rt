@@ -3,10 +3,11 @@
 ghost use Rattle.std.specs.Prelude.{◌≡◌, IfOk, IsErrOf};
 ghost use Rattle.sd_answers.specs.declared.writing.Unwritten.TheVariants.{Memory};
 ghost use Rattle.sd_answers.specs.Answers.{answer_of};
-ghost use Rattle.sd_answers.specs.StreamChanges.{Puts, change_of};
+ghost use Rattle.sd_answers.specs.StreamChanges.{LeavesHeld, Puts, change_of};
+ghost use Rattle.sd_answers.specs.Handing.{LeavesHeldBy};
 ghost use Rattle.sd_program.specs.AuditAnswers.{CausedByAudit, IsLegalReading, legal_text};
 
-use sd_answers::{Answer, Unwritten, put_line, read_certificate};
+use sd_answers::{Answer, Unwritten, print_line, read_certificate};
 use sd_audit::audit;
 use sd_text::{Sink, Source, put_number};
 use std::alloc::{AllocError, Global};
@@ -22,13 +23,14 @@ fn legal_line(alloc: Global, entries: u64) -> Result<Vec<u8>, AllocError>
     Ok(line)
 }
 
-/// Writes that line. Memory is taken before the first byte is written.
-fn put_legal<K: Sink>(alloc: Global, entries: u64, out: &mut K) -> Result<(), Unwritten>
+/// Writes that line and hands it on. Memory is taken before the first byte is written.
+fn print_legal<K: Sink>(alloc: Global, entries: u64, out: &mut K) -> Result<(), Unwritten>
     ensures puts { Puts (K.contents out.old) (K.contents out.new) (K.fault_count out.old) (K.fault_count out.new) (legal_text entries) result }
     ensures kept { IsErrOf result Memory → K.contents out.new ≡ K.contents out.old }
+    ensures leaves { LeavesHeld (K.held_back out.old) (K.held_back out.new) result }
 {
     let line = legal_line(alloc, entries)?;
-    put_line(out, &line)
+    print_line(out, &line)
 }
 
 /// How many entries the run has whose journal the input holds behind its workload, or why it holds none.
@@ -46,12 +48,13 @@ pub(crate) fn audit_input<S: Source, K: Sink>(
     input: &mut S,
     out: &mut K,
 ) -> Result<(), Answer>
-    ensures { CausedByAudit
+    ensures caused { CausedByAudit
         (change_of (S.remaining input.old) (S.remaining input.new) (S.fault_count input.old) (S.fault_count input.new))
         (change_of (K.contents out.old) (K.contents out.new) (K.fault_count out.old) (K.fault_count out.new))
         (answer_of result) }
+    ensures leaves { LeavesHeldBy (answer_of result) (K.held_back out.old) (K.held_back out.new) }
 {
     let entries = judge_input(alloc, input)?;
-    put_legal(alloc, entries, out)?;
+    print_legal(alloc, entries, out)?;
     Ok(())
 }

@@ -5,6 +5,7 @@ ghost use Rattle.sd_machine.specs.LockGraph.{cycles_of};
 ghost use Rattle.sd_machine.specs.Runs.{final};
 ghost use Rattle.sd_state.specs.Opening.{opening};
 ghost use Rattle.sd_answers.specs.Answers.{answer_of};
+ghost use Rattle.sd_answers.specs.Handing.{LeavesHeldBy};
 ghost use Rattle.sd_program.specs.declared.forms.Form.TheVariants.{Journal};
 ghost use Rattle.sd_program.specs.declared.forms.Mode.TheVariants.{Threads};
 ghost use Rattle.sd_program.specs.Forms.{mode_of};
@@ -15,7 +16,7 @@ ghost use Rattle.sd_types.specs.Limits.{most_entries};
 
 use crate::forms::{Form, Mode};
 use crate::numbers_are_bytes;
-use crate::writing::put_run;
+use crate::writing::print_run;
 use sd_accounts::cycles;
 use sd_answers::Answer;
 use sd_cpu::Gate;
@@ -87,9 +88,10 @@ fn put_finished<K: Sink>(
         (change_of (K.contents out.old) (K.contents out.new) (K.fault_count out.old) (K.fault_count out.new))
         (answer_of result) }
     ensures never_falls { K.fault_count out.old ≤ K.fault_count out.new }
+    ensures leaves { LeavesHeldBy (answer_of result) (K.held_back out.old) (K.held_back out.new) }
 {
     let found = cycles(alloc, &run.state)?;
-    put_run(alloc, work, form, &run.entries, &run.state, &found, out)?;
+    print_run(alloc, work, form, &run.entries, &run.state, &found, out)?;
     let blocked = is_blocked(&run.state, &found);
     if blocked {
         return Err(Answer::Blocked);
@@ -109,6 +111,7 @@ pub(crate) fn run_work<K: Sink>(
         (change_of (K.contents out.old) (K.contents out.new) (K.fault_count out.old) (K.fault_count out.new))
         (answer_of result) }
     ensures never_falls { K.fault_count out.old ≤ K.fault_count out.new }
+    ensures leaves { LeavesHeldBy (answer_of result) (K.held_back out.old) (K.held_back out.new) }
 {
     let run = run_in_rounds(alloc, work, form.mode())?;
     put_finished(alloc, work, form, &run, out)
@@ -126,6 +129,7 @@ pub(crate) fn run_work_on_threads<R: Threads + Wait + Sync, K: Sink, G: Gate + S
         (change_of (K.contents out.old) (K.contents out.new) (K.fault_count out.old) (K.fault_count out.new))
         (answer_of result) }
     ensures never_falls { K.fault_count out.old ≤ K.fault_count out.new }
+    ensures leaves { LeavesHeldBy (answer_of result) (K.held_back out.old) (K.held_back out.new) }
 {
     let run = run_side_by_side(rt, alloc, work, gate)?;
     put_finished(alloc, work, Form::Journal(Mode::Threads), &run, out)

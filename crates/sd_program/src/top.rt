@@ -2,6 +2,7 @@
 
 ghost use Rattle.std.specs.Prelude.{◌≡◌, ◌≢◌, ℕ, List, Some, map, string_bytes};
 ghost use Rattle.sd_answers.specs.Answers.{status_of, answer_of};
+ghost use Rattle.sd_answers.specs.Handing.{IsHandedOn, LeavesHeldBy};
 ghost use Rattle.sd_program.specs.declared.forms.Command.TheVariants.{Run};
 ghost use Rattle.sd_program.specs.declared.forms.Form.TheVariants.{Journal};
 ghost use Rattle.sd_program.specs.declared.forms.Mode.TheVariants.{Threads};
@@ -13,7 +14,7 @@ ghost use Rattle.sd_answers.specs.StreamChanges.{change_of};
 use crate::audits::audit_input;
 use crate::forms::{Command, Form, ask_for_threads, command_of};
 use crate::running::{run_work, run_work_on_threads};
-use crate::tables::{put_generated, put_tables};
+use crate::tables::{print_generated, print_tables};
 use sd_answers::{Answer, read_input};
 use sd_cpu::Gate;
 use sd_text::{Sink, Source};
@@ -31,10 +32,11 @@ fn run_input<S: Source, K: Sink>(
     out: &mut K,
 ) -> Result<(), Answer>
     requires rounds { mode_of form ≢ Threads }
-    ensures { CausedByInput form
+    ensures caused { CausedByInput form
         (change_of (S.remaining input.old) (S.remaining input.new) (S.fault_count input.old) (S.fault_count input.new))
         (change_of (K.contents out.old) (K.contents out.new) (K.fault_count out.old) (K.fault_count out.new))
         (answer_of result) }
+    ensures leaves { LeavesHeldBy (answer_of result) (K.held_back out.old) (K.held_back out.new) }
 {
     let work = read_input(alloc, input)?;
     run_work(alloc, &work, form, out)
@@ -48,34 +50,37 @@ fn run_input_on_threads<R: Threads + Wait + Sync, S: Source, K: Sink, G: Gate + 
     out: &mut K,
     gate: &G,
 ) -> Result<(), Answer>
-    ensures { CausedByInput (Journal Threads)
+    ensures caused { CausedByInput (Journal Threads)
         (change_of (S.remaining input.old) (S.remaining input.new) (S.fault_count input.old) (S.fault_count input.new))
         (change_of (K.contents out.old) (K.contents out.new) (K.fault_count out.old) (K.fault_count out.new))
         (answer_of result) }
+    ensures leaves { LeavesHeldBy (answer_of result) (K.held_back out.old) (K.held_back out.new) }
 {
     let work = read_input(alloc, input)?;
     run_work_on_threads(rt, alloc, &work, out, gate)
 }
 
 /// Reads the workload, and writes its dispatch tables.
-fn print_tables<S: Source, K: Sink>(alloc: Global, input: &mut S, out: &mut K) -> Result<(), Answer>
-    ensures { CausedByTables
+fn tabulate<S: Source, K: Sink>(alloc: Global, input: &mut S, out: &mut K) -> Result<(), Answer>
+    ensures caused { CausedByTables
         (change_of (S.remaining input.old) (S.remaining input.new) (S.fault_count input.old) (S.fault_count input.new))
         (change_of (K.contents out.old) (K.contents out.new) (K.fault_count out.old) (K.fault_count out.new))
         (answer_of result) }
+    ensures leaves { LeavesHeldBy (answer_of result) (K.held_back out.old) (K.held_back out.new) }
 {
     let work = read_input(alloc, input)?;
-    put_tables(alloc, &work, out)?;
+    print_tables(alloc, &work, out)?;
     Ok(())
 }
 
 /// Writes the generated workload of a number.
-fn print_generated<K: Sink>(alloc: Global, number: u32, out: &mut K) -> Result<(), Answer>
-    ensures { CausedByNumber number
+fn generate<K: Sink>(alloc: Global, number: u32, out: &mut K) -> Result<(), Answer>
+    ensures caused { CausedByNumber number
         (change_of (K.contents out.old) (K.contents out.new) (K.fault_count out.old) (K.fault_count out.new))
         (answer_of result) }
+    ensures leaves { LeavesHeldBy (answer_of result) (K.held_back out.old) (K.held_back out.new) }
 {
-    put_generated(alloc, number, out)?;
+    print_generated(alloc, number, out)?;
     Ok(())
 }
 
@@ -87,15 +92,16 @@ fn carry_out<S: Source, K: Sink>(
     out: &mut K,
 ) -> Answer
     requires alone { command_of (map string_bytes arguments.now) ≢ Some (Run (Journal Threads)) }
-    ensures { Caused (map string_bytes arguments.now)
+    ensures caused { Caused (map string_bytes arguments.now)
         (change_of (S.remaining input.old) (S.remaining input.new) (S.fault_count input.old) (S.fault_count input.new))
         (change_of (K.contents out.old) (K.contents out.new) (K.fault_count out.old) (K.fault_count out.new))
         result }
+    ensures leaves { LeavesHeldBy result (K.held_back out.old) (K.held_back out.new) }
 {
     match command_of(arguments) {
         Some(Command::Run(form)) => Answer::of(run_input(alloc, form, input, out)),
-        Some(Command::Tables) => Answer::of(print_tables(alloc, input, out)),
-        Some(Command::Generate { number }) => Answer::of(print_generated(alloc, number, out)),
+        Some(Command::Tables) => Answer::of(tabulate(alloc, input, out)),
+        Some(Command::Generate { number }) => Answer::of(generate(alloc, number, out)),
         Some(Command::Audit) => Answer::of(audit_input(alloc, input, out)),
         None => Answer::Usage,
     }
@@ -121,7 +127,7 @@ fn tell<E: Sink>(answer: Answer, err: &mut E) -> u8
 /// that the text behind the workload is no such journal. The other statuses are 1 (the arguments are of none of the forms),
 /// 2 (the input is too large, no accepted workload, or has no journal), 3 (a read failed), 4 (a write failed), 5 (out of
 /// memory, and no fault of `input` or `out` was counted) and 8 (the run has 2^40 entries or more); each but 0 leaves one
-/// line on `err`.
+/// line on `err`. With status 0 or 6 `out` has handed on all that it holds.
 pub fn serial<S: Source, K: Sink, E: Sink, G: Gate>(
     alloc: Global,
     arguments: &[String],
@@ -131,11 +137,12 @@ pub fn serial<S: Source, K: Sink, E: Sink, G: Gate>(
     _gate: &G,
 ) -> u8
     requires alone { command_of (map string_bytes arguments.now) ≢ Some (Run (Journal Threads)) }
-    ensures { KeepsPromises (map string_bytes arguments.now)
+    ensures promises { KeepsPromises (map string_bytes arguments.now)
         (change_of (S.remaining input.old) (S.remaining input.new) (S.fault_count input.old) (S.fault_count input.new))
         (change_of (K.contents out.old) (K.contents out.new) (K.fault_count out.old) (K.fault_count out.new))
         (change_of (E.contents err.old) (E.contents err.new) (E.fault_count err.old) (E.fault_count err.new))
         result }
+    ensures handed_on { IsHandedOn result (K.held_back out.old) (K.held_back out.new) }
 {
     tell(carry_out(alloc, arguments, input, out), err)
 }
@@ -149,11 +156,12 @@ fn dispsim_on_threads<R: Threads + Wait + Sync, S: Source, K: Sink, E: Sink, G: 
     err: &mut E,
     gate: &G,
 ) -> u8
-    ensures { (arguments : List (List ℕ)) → command_of arguments ≡ Some (Run (Journal Threads)) → KeepsPromises arguments
+    ensures promises { (arguments : List (List ℕ)) → command_of arguments ≡ Some (Run (Journal Threads)) → KeepsPromises arguments
         (change_of (S.remaining input.old) (S.remaining input.new) (S.fault_count input.old) (S.fault_count input.new))
         (change_of (K.contents out.old) (K.contents out.new) (K.fault_count out.old) (K.fault_count out.new))
         (change_of (E.contents err.old) (E.contents err.new) (E.fault_count err.old) (E.fault_count err.new))
         result }
+    ensures handed_on { IsHandedOn result (K.held_back out.old) (K.held_back out.new) }
 {
     let answer = Answer::of(run_input_on_threads(rt, alloc, input, out, gate));
     tell(answer, err)
@@ -161,7 +169,8 @@ fn dispsim_on_threads<R: Threads + Wait + Sync, S: Source, K: Sink, E: Sink, G: 
 
 /// The program: as `serial`; and with the arguments `run --threads` the processors act side by side, as far as `rt` starts threads
 /// of the host. What is printed is then the journal of a complete legal run in one of the orders in which they can act, and may be
-/// another one each time. The gate is passed once in each turn of a processor, with the first home that it takes.
+/// another one each time. On threads the gate is passed at most once in each turn of a processor, with the first home that it takes; on one
+/// thread nobody passes it.
 pub fn dispsim<R: Threads + Wait + Sync, S: Source, K: Sink, E: Sink, G: Gate + Sync>(
     rt: &R,
     alloc: Global,
@@ -171,11 +180,12 @@ pub fn dispsim<R: Threads + Wait + Sync, S: Source, K: Sink, E: Sink, G: Gate + 
     err: &mut E,
     gate: &G,
 ) -> u8
-    ensures { KeepsPromises (map string_bytes arguments.now)
+    ensures promises { KeepsPromises (map string_bytes arguments.now)
         (change_of (S.remaining input.old) (S.remaining input.new) (S.fault_count input.old) (S.fault_count input.new))
         (change_of (K.contents out.old) (K.contents out.new) (K.fault_count out.old) (K.fault_count out.new))
         (change_of (E.contents err.old) (E.contents err.new) (E.fault_count err.old) (E.fault_count err.new))
         result }
+    ensures handed_on { IsHandedOn result (K.held_back out.old) (K.held_back out.new) }
 {
     if ask_for_threads(arguments) {
         dispsim_on_threads(rt, alloc, input, out, err, gate)
@@ -195,11 +205,12 @@ pub fn start<R: Threads + Wait + Sync, S: Source, K: Sink, E: Sink, G: Gate + Sy
     err: &mut E,
     gate: &G,
 ) -> u8
-    ensures { DispsimStarts arguments
+    ensures promises { DispsimStarts arguments
         (change_of (S.remaining input.old) (S.remaining input.new) (S.fault_count input.old) (S.fault_count input.new))
         (change_of (K.contents out.old) (K.contents out.new) (K.fault_count out.old) (K.fault_count out.new))
         (change_of (E.contents err.old) (E.contents err.new) (E.fault_count err.old) (E.fault_count err.new))
         result }
+    ensures handed_on { IsHandedOn result (K.held_back out.old) (K.held_back out.new) }
 {
     match arguments {
         Ok(arguments) => dispsim(rt, alloc, &arguments, input, out, err, gate),

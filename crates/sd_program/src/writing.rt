@@ -11,11 +11,11 @@ ghost use Rattle.sd_machine.specs.Texts.{cycles_text, entries_text, entry_text, 
 ghost use Rattle.sd_state.specs.Opening.{opening};
 ghost use Rattle.sd_state.specs.Texts.{accounts_text};
 ghost use Rattle.sd_program.specs.Forms.{text_of};
-ghost use Rattle.sd_answers.specs.StreamChanges.{Puts};
+ghost use Rattle.sd_answers.specs.StreamChanges.{LeavesHeld, Puts};
 
 use crate::forms::Form;
 use sd_accounts::Accounts;
-use sd_answers::{Unwritten, put_line, put_text};
+use sd_answers::{Unwritten, hand_on, put_line, put_text};
 use sd_entries::EntryLine;
 use sd_log::{EntryLog, Parts};
 use sd_state::State;
@@ -133,7 +133,7 @@ fn put_summary<K: Sink>(
 }
 
 /// Writes what the form prints of a run in whose final state these are the blocking cycles.
-pub(crate) fn put_run<K: Sink>(
+fn put_form<K: Sink>(
     alloc: Global,
     work: &Work,
     form: Form,
@@ -152,4 +152,26 @@ pub(crate) fn put_run<K: Sink>(
         Form::Journal(_) => put_journal(alloc, work, entries, s, cycles, out),
         Form::Summary => put_summary(alloc, work, entries, s, out),
     }
+}
+
+/// Writes what the form prints of a run in whose final state these are the blocking cycles, and hands it on; also what was written
+/// when memory ran out.
+pub(crate) fn print_run<K: Sink>(
+    alloc: Global,
+    work: &Work,
+    form: Form,
+    entries: &EntryLog,
+    s: &State,
+    cycles: &[Vec<usize>],
+    out: &mut K,
+) -> Result<(), Unwritten>
+    requires few { length entries.now.items < 2 ^ 48 }
+    requires cycles { map (λ v. v.items) cycles.now ≡ cycles_of s.now }
+    requires state { s.now ≡ final work.now (opening work.now) entries.now.items }
+    ensures puts { Puts (K.contents out.old) (K.contents out.new) (K.fault_count out.old) (K.fault_count out.new)
+        (text_of form work.now entries.now.items) result }
+    ensures leaves { LeavesHeld (K.held_back out.old) (K.held_back out.new) result }
+{
+    let put = put_form(alloc, work, form, entries, s, cycles, out);
+    hand_on(out, put)
 }

@@ -85,17 +85,43 @@ fn status_over<R: Threads + Wait + Sync + AllocGlobal>(
     }
 }
 
+/// The call over these streams answers as it is to.
+fn is_answered_over<R: Threads + Wait + Sync + AllocGlobal>(
+    rt: &R,
+    row: &Row,
+    streams: &mut Streams,
+) -> bool {
+    let (program, words, _, status, out, err) = *row;
+    let found = status_over(rt, program, arguments(rt.alloc(), words), streams);
+    found == status && holds(streams, out.as_bytes(), err.as_bytes())
+}
+
 /// The call answers as it is to.
 fn is_answered<R: Threads + Wait + Sync + AllocGlobal>(
     rt: &R,
     row: &Row,
 ) -> Result<bool, AllocError> {
-    let (program, words, input, status, out, err) = *row;
-    let alloc = rt.alloc();
-    let mut streams = streams_of(alloc, plain(input.as_bytes(), 7))?;
-    let arguments = arguments(alloc, words);
-    let found = status_over(rt, program, arguments, &mut streams);
-    Ok(found == status && holds(&streams, out.as_bytes(), err.as_bytes()))
+    let mut streams = streams_of(rt.alloc(), plain(row.2.as_bytes(), 7))?;
+    Ok(is_answered_over(rt, row, &mut streams))
+}
+
+/// The same streams, with an output that takes every line and whose flush fails.
+fn failing_to_flush(streams: Streams) -> Streams {
+    let Streams { input, out, err } = streams;
+    Streams {
+        input,
+        out: out.failing_to_flush(),
+        err,
+    }
+}
+
+/// The call answers as it is to, where the flush of its output fails.
+fn is_answered_without_flush<R: Threads + Wait + Sync + AllocGlobal>(
+    rt: &R,
+    row: &Row,
+) -> Result<bool, AllocError> {
+    let streams = streams_of(rt.alloc(), plain(row.2.as_bytes(), 7))?;
+    Ok(is_answered_over(rt, row, &mut failing_to_flush(streams)))
 }
 
 const CALLS: [Row; 15] = [
@@ -192,4 +218,66 @@ fn wrong_call<R: Threads + Wait + Sync + AllocGlobal>(rt: &R) -> Result<Option<u
 #[test]
 fn calls_of_each_program(rt: HostRuntime) {
     judge(&rt, wrong_call(&rt));
+}
+
+/// Where the flush fails a call that printed ends with a write fault, and one that printed nothing as it does otherwise.
+const FLUSHES: [Row; 6] = [
+    (
+        Program::Dispsim,
+        Some("run"),
+        SMALLEST,
+        4,
+        SMALLEST_JOURNAL,
+        "write fault\n",
+    ),
+    (
+        Program::Dispsim,
+        Some("run"),
+        "limit 0\n",
+        2,
+        "",
+        "refused: line 1: range\n",
+    ),
+    (
+        Program::Dispview,
+        Some("--help"),
+        "",
+        4,
+        VIEW_HELP,
+        "write fault\n",
+    ),
+    (
+        Program::Dispview,
+        Some("timeline"),
+        "limit 5\n",
+        2,
+        "",
+        "refused: no journal\n",
+    ),
+    (
+        Program::Dispfind,
+        Some("stuck"),
+        SMALLEST,
+        4,
+        "never\nstates 8\n",
+        "write fault\n",
+    ),
+    (Program::Dispfind, None, "", 1, "", FIND_USAGE),
+];
+
+/// The first call that is answered otherwise where the flush fails.
+fn wrong_flush<R: Threads + Wait + Sync + AllocGlobal>(
+    rt: &R,
+) -> Result<Option<usize>, AllocError> {
+    for (index, row) in FLUSHES.iter().enumerate() {
+        if !is_answered_without_flush(rt, row)? {
+            return Ok(Some(index));
+        }
+    }
+    Ok(None)
+}
+
+#[test]
+fn each_program_flushes(rt: HostRuntime) {
+    judge(&rt, wrong_flush(&rt));
 }

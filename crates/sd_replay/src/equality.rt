@@ -77,7 +77,7 @@ fn same_bind(a: &BindAnswer, b: &BindAnswer) -> bool
 }
 
 /// The two events are the same.
-pub(crate) fn same_event(a: &Event, b: &Event) -> bool
+pub fn same_event(a: &Event, b: &Event) -> bool
     ensures { IsTrue result ↔ (a.now ≡ b.now) }
 {
     match a {

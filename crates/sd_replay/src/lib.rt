@@ -9,6 +9,7 @@ mod serial;
 mod stepping;
 
 pub use entering::can_enter;
+pub use equality::same_event;
 pub use replays::{IllegalEntry, ReplayFault, replay};
 pub use serial::serial_next;
 pub use stepping::{apply, make_entry, step};

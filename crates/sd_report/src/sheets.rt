@@ -13,7 +13,7 @@ use crate::tables::{longest_first, longest_last, longest_ticks};
 use crate::words::{holder, measure_word, put_subject_name, row_object, subject_word};
 use csv::{ByteRecord, Error, WriterBuilder};
 use sd_statistics::{Row, cpu_rows, lock_rows, task_rows, thread_rows};
-use sd_stretches::History;
+use sd_stretches::ByThread;
 use sd_types::Work;
 use std::alloc::{AllocError, Global};
 
@@ -127,7 +127,7 @@ fn put_head(out: &mut Vec<u8>) -> Result<(), AllocError>
 fn put_threads(
     alloc: Global,
     work: &Work,
-    history: &History,
+    history: &ByThread,
     out: &mut Vec<u8>,
 ) -> Result<(), AllocError>
     ensures { OnOk result (out.new.items ≡ out.old.items ++ thread_sheet work.now history.now) }
@@ -140,12 +140,12 @@ fn put_threads(
 fn put_tasks(
     alloc: Global,
     work: &Work,
-    history: &History,
+    history: &ByThread,
     out: &mut Vec<u8>,
 ) -> Result<(), AllocError>
     ensures { OnOk result (out.new.items ≡ out.old.items ++ task_sheet work.now history.now) }
 {
-    let rows = task_rows(alloc, work, history)?;
+    let rows = task_rows(alloc, work, &history.history)?;
     put_rows(alloc, work, &rows, out)
 }
 
@@ -153,7 +153,7 @@ fn put_tasks(
 fn put_locks(
     alloc: Global,
     work: &Work,
-    history: &History,
+    history: &ByThread,
     out: &mut Vec<u8>,
 ) -> Result<(), AllocError>
     ensures { OnOk result (out.new.items ≡ out.old.items ++ lock_sheet work.now history.now) }
@@ -166,19 +166,19 @@ fn put_locks(
 fn put_cpus(
     alloc: Global,
     work: &Work,
-    history: &History,
+    history: &ByThread,
     out: &mut Vec<u8>,
 ) -> Result<(), AllocError>
     ensures { OnOk result (out.new.items ≡ out.old.items ++ cpu_sheet work.now history.now) }
 {
-    let rows = cpu_rows(alloc, work, history)?;
+    let rows = cpu_rows(alloc, work, &history.history)?;
     put_rows(alloc, work, &rows, out)
 }
 
 /// The report of a run of the workload, of which this is the history, as comma-separated rows: the names of the fields,
 /// and a record for each row of the statistics. A field that has nothing to say is empty.
 #[tactic(auto, unfolding(crate::specs::Sheets::sheet_text))]
-pub fn sheet(alloc: Global, work: &Work, history: &History) -> Result<Vec<u8>, AllocError>
+pub fn sheet(alloc: Global, work: &Work, history: &ByThread) -> Result<Vec<u8>, AllocError>
     ensures { IfOk result (λ text. text.items ≡ sheet_text work.now history.now) }
 {
     let mut text = Vec::new(alloc);

@@ -7,7 +7,7 @@ ghost use Rattle.sd_report.specs.Tables.{by_text, cpu_section, head_line, lock_s
 use crate::cells::{put_cell, put_left, put_right};
 use crate::words::{holder, measure_word, put_subject_name, row_object};
 use sd_statistics::{Row, Span, cpu_rows, lock_rows, task_rows, thread_rows, ticks_of};
-use sd_stretches::{History, put_counted};
+use sd_stretches::{ByThread, put_counted};
 use sd_types::Work;
 use std::alloc::{AllocError, Global};
 
@@ -135,11 +135,11 @@ fn put_section(
 }
 
 #[tactic(auto, unfolding(crate::specs::Tables::ticks_line))]
-fn put_ticks_line(work: &Work, history: &History, out: &mut Vec<u8>) -> Result<(), AllocError>
+fn put_ticks_line(work: &Work, history: &ByThread, out: &mut Vec<u8>) -> Result<(), AllocError>
     ensures { OnOk result (out.new.items ≡ out.old.items ++ ticks_line work.now history.now) }
 {
     put_counted(b"ticks ", u64::from(work.limit), out)?;
-    put_counted(b", entries ", history.entries, out)?;
+    put_counted(b", entries ", history.history.entries, out)?;
     out.extend_from_slice(b"\n\n")
 }
 
@@ -147,7 +147,7 @@ fn put_ticks_line(work: &Work, history: &History, out: &mut Vec<u8>) -> Result<(
 fn put_threads(
     alloc: Global,
     work: &Work,
-    history: &History,
+    history: &ByThread,
     out: &mut Vec<u8>,
 ) -> Result<(), AllocError>
     ensures { OnOk result (out.new.items ≡ out.old.items ++ thread_section work.now history.now) }
@@ -160,12 +160,12 @@ fn put_threads(
 fn put_tasks(
     alloc: Global,
     work: &Work,
-    history: &History,
+    history: &ByThread,
     out: &mut Vec<u8>,
 ) -> Result<(), AllocError>
     ensures { OnOk result (out.new.items ≡ out.old.items ++ task_section work.now history.now) }
 {
-    let rows = task_rows(alloc, work, history)?;
+    let rows = task_rows(alloc, work, &history.history)?;
     put_section(alloc, work, b"\ntasks\n", &rows, out)
 }
 
@@ -173,7 +173,7 @@ fn put_tasks(
 fn put_locks(
     alloc: Global,
     work: &Work,
-    history: &History,
+    history: &ByThread,
     out: &mut Vec<u8>,
 ) -> Result<(), AllocError>
     ensures { OnOk result (out.new.items ≡ out.old.items ++ lock_section work.now history.now) }
@@ -186,18 +186,18 @@ fn put_locks(
 fn put_cpus(
     alloc: Global,
     work: &Work,
-    history: &History,
+    history: &ByThread,
     out: &mut Vec<u8>,
 ) -> Result<(), AllocError>
     ensures { OnOk result (out.new.items ≡ out.old.items ++ cpu_section work.now history.now) }
 {
-    let rows = cpu_rows(alloc, work, history)?;
+    let rows = cpu_rows(alloc, work, &history.history)?;
     put_section(alloc, work, b"\nprocessors\n", &rows, out)
 }
 
 /// The report of a run of the workload, of which this is the history, as a table: a line for each row of the statistics.
 #[tactic(auto, unfolding(crate::specs::Tables::report_text))]
-pub fn report(alloc: Global, work: &Work, history: &History) -> Result<Vec<u8>, AllocError>
+pub fn report(alloc: Global, work: &Work, history: &ByThread) -> Result<Vec<u8>, AllocError>
     ensures { IfOk result (λ text. text.items ≡ report_text work.now history.now) }
 {
     let mut text = Vec::new(alloc);

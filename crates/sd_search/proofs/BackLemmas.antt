@@ -11,7 +11,6 @@ use Rattle.sd_types.specs.declared.numbers.ThreadId.{ThreadId}
 use Rattle.sd_types.specs.declared.events.BindAnswer.{BindAnswer}
 use Rattle.sd_types.specs.declared.events.BindAnswer.TheVariants as bind
 use Rattle.sd_types.specs.declared.events.Event.{Event}
-use Rattle.sd_types.specs.declared.events.Event.TheVariants.{Tick, Spin, Idle, Dispatch, Steal, Preempt, Yield, Done, Nap, Napend, Sleep, Wake, Wakeall, Rouse, Enter, Read, Write, Block, Will, End, Exit, Unblock, Grant, Passed, Age, Prio, CvWait, SemaP, SemaWait, SemaVWake, SemaVCount, Assign, Move, Joined, Bind, Away}
 use Rattle.sd_types.specs.declared.events.PrioAnswer.{PrioAnswer}
 use Rattle.sd_types.specs.declared.events.PrioAnswer.TheVariants.{Changed, Refused}
 use Rattle.sd_types.specs.declared.events.Put.{Put}
@@ -25,7 +24,9 @@ use Rattle.sd_state.specs.declared.states.State.{State}
 use Rattle.sd_state.specs.States.{cpu_of, thread_of}
 use Rattle.sd_state.specs.Operations.{op_of}
 use Rattle.sd_machine.specs.Changes.{cpu_put}
-use Rattle.sd_machine.specs.Needs.{CanAct, CanBeBound, CanBeChanged, CanBind, CanCount, CanFinish, CanInherit, CanNap, CanReceive, CanUnbind, IsBindPut, IsCpu, IsPrioPut, IsPut, IsPutIf, IsSet, IsThread, IsUnmoved, IsWoken, Needs, Runs, RunsThere, more_fits}
+use Rattle.sd_machine.specs.Needs.{CanAct, CanBeBound, CanBeChanged, CanBind, CanCount, CanFinish, CanInherit, CanNap, CanReceive, CanUnbind, IsBindPut, IsCpu, IsPrioPut, IsPut, IsPutIf, IsSet, IsThread, IsUnmoved, IsWoken, Need, Met, Needs, Runs, RunsThere, more_fits}
+use Rattle.sd_machine.specs.Needs.Need.{Thread, Lock, Chan, Cpu, Set, SetOf, At, AtIf, Woken, PlaceOf, Acts, Stays, Nobody, Ticks, Naps, Holds, ReadsMore, Inherits, Receives, Ages, Counts, JoinsSet, IsChanged, IsBound}
+use Rattle.sd_machine.proofs.NeedLemmas.{needs_met}
 use Rattle.sd_machine.specs.Sleeping.{nap_ticks}
 use Rattle.sd_machine.specs.Threads.{greatest_waiting, lock_of}
 use Rattle.sd_invariants.specs.Laws.{IsFit}
@@ -179,44 +180,34 @@ module _ (x s : State) (h : IsSameOrder x s) where
     running = runs_there_back u can.running;
   }
 
+  need_back : (w : Work) (c : CpuId) (a : Need) → Met w s c a → Met w x c a
+  need_back w c (Thread t) can = thread_back t can
+  need_back w c (Lock l) can = lock_back x s h l can
+  need_back w c (Chan k) can = chan_back x s h k can
+  need_back w c (Cpu d) can = cpu_back d can
+  need_back w c (Set p) can = set_back p can
+  need_back w c (SetOf d) can = subst (λ (y : CpuState). y.set.0 < length x.open_cpus) (sym (cpu_alike x s h.bare d.0)) (set_back (cpu_of s d.0).set can)
+  need_back w c (At at) can = put_back at can
+  need_back w c (AtIf at) can = put_if_back at can
+  need_back w c (Woken u) can = woken_back u can
+  need_back w c (PlaceOf t) can = runs_there_back t can
+  need_back w c (Acts t) can = act_back w t c can
+  need_back w c (Stays t) can = runner_back t c can
+  need_back w c Nobody can = free_back x s h c can
+  need_back w c Ticks can = tick_back x s h w c can
+  need_back w c (Naps t) can = nap_back w t c can
+  need_back w c (Holds t l) can = change_back x s h w t (Hold l) can
+  need_back w c (ReadsMore l) can = more_back l can
+  need_back w c (Inherits o l) can = inherit_back w o l can
+  need_back w c (Receives u l) can = receive_back w u l can
+  need_back w c (Ages t) can = can
+  need_back w c (Counts k) can = counts_back k can
+  need_back w c (JoinsSet p) can = join_back x s h p can
+  need_back w c (IsChanged t u answer) can = changed_back w t u answer can
+  need_back w c (IsBound u d answer) can = be_bound_back u d answer can
+
   pub needs_back : (w : Work) (c : CpuId) (e : Event) → Needs w s c e → Needs w x c e
-  needs_back w c (Tick t) can = (act_back w t c can.0, tick_back x s h w c can.1)
-  needs_back w c (Spin t l) can = (runner_back t c can.0, lock_back x s h l can.1, tick_back x s h w c can.2)
-  needs_back w c Idle can = tick_back x s h w c can
-  needs_back w c (Dispatch t p) can = (thread_back t can.0, free_back x s h c can.1)
-  needs_back w c (Steal v t p) can = (thread_back t can.0, free_back x s h c can.1, cpu_back v can.2)
-  needs_back w c (Preempt t end) can = runner_back t c can
-  needs_back w c (Away t d) can = (runner_back t c can.0, cpu_back d can.1)
-  needs_back w c (Yield t) can = act_back w t c can
-  needs_back w c (Done t) can = runner_back t c can
-  needs_back w c (Nap t) can = (act_back w t c can.0, nap_back w t c can.1)
-  needs_back w c (Napend t at) can = (thread_back t can.0, put_back at can.1)
-  needs_back w c (Sleep t k) can = (act_back w t c can.0, chan_back x s h k can.1)
-  needs_back w c (Wake t k u) can = (act_back w t c can.0, chan_back x s h k can.1, woken_back u can.2)
-  needs_back w c (Wakeall t k) can = (act_back w t c can.0, chan_back x s h k can.1)
-  needs_back w c (Rouse k u) can = (chan_back x s h k can.0, woken_back u can.1)
-  needs_back w c (Enter t l) can = (act_back w t c can.0, lock_back x s h l can.1, change_back x s h w t (Hold l) can.2)
-  needs_back w c (Read t l) can = (act_back w t c can.0, lock_back x s h l can.1, change_back x s h w t (Hold l) can.2, more_back l can.3)
-  needs_back w c (Write t l) can = (act_back w t c can.0, lock_back x s h l can.1, change_back x s h w t (Hold l) can.2)
-  needs_back w c (Block t l) can = (runner_back t c can.0, lock_back x s h l can.1)
-  needs_back w c (Will l o p at) can = (thread_back o can.0, lock_back x s h l can.1, inherit_back w o l can.2, put_if_back at can.3, runs_there_back o can.4)
-  needs_back w c (End l) can = lock_back x s h l can
-  needs_back w c (Exit t l) can = (act_back w t c can.0, lock_back x s h l can.1)
-  needs_back w c (Unblock l u at) can = (thread_back u can.0, lock_back x s h l can.1, put_back at can.2)
-  needs_back w c (Grant l u at) can = (lock_back x s h l can.0, put_back at can.1, receive_back w u l can.2)
-  needs_back w c (Passed l) can = lock_back x s h l can
-  needs_back w c (Age t p) can = (thread_back t can.0, can.1)
-  needs_back w c (Prio t u answer) can = (act_back w t c can.0, changed_back w t u answer can.1)
-  needs_back w c (CvWait t k l) can = (act_back w t c can.0, chan_back x s h k can.1, lock_back x s h l can.2)
-  needs_back w c (SemaP t k) can = (act_back w t c can.0, chan_back x s h k can.1)
-  needs_back w c (SemaWait t k) can = (act_back w t c can.0, chan_back x s h k can.1)
-  needs_back w c (SemaVWake t k u at) can = (act_back w t c can.0, chan_back x s h k can.1, thread_back u can.2, put_back at can.3)
-  needs_back w c (SemaVCount t k m) can = (act_back w t c can.0, chan_back x s h k can.1, counts_back k can.2)
-  needs_back w c (Assign t d to answer) can =
-      (act_back w t c can.0, cpu_back d can.1, set_back to can.2, subst (λ (y : CpuState). y.set.0 < length x.open_cpus) (sym (cpu_alike x s h.bare d.0)) (set_back (cpu_of s d.0).set can.3))
-  needs_back w c (Move t at) can = (thread_back t can.0, put_back at can.1)
-  needs_back w c (Joined to) can = (set_back to can.0, join_back x s h to can.1)
-  needs_back w c (Bind t u d answer) can = (act_back w t c can.0, be_bound_back u d answer can.1)
+  needs_back w c e can = needs_met w s x c (λ a met. need_back w c a met) e can
 
   owner_back : (o : ThreadId) → o.0 < length s.threads → o.0 < length x.threads
   owner_back o inside = thread_back o inside

@@ -8,7 +8,7 @@ use Rattle.sd_types.specs.declared.events.BindAnswer.{BindAnswer}
 use Rattle.sd_types.specs.declared.events.BindAnswer.TheVariants as bind_answer
 use Rattle.sd_types.specs.declared.events.Entry.{Entry}
 use Rattle.sd_types.specs.declared.events.Event.{Event}
-use Rattle.sd_types.specs.declared.events.Event.TheVariants.{Dispatch, Steal, Preempt, Away, Yield, Done, Nap, Napend, Sleep, Wake, Rouse, Block, Will, Unblock, Grant, Age, Prio, CvWait, SemaWait, SemaVWake, Move, Bind}
+use Rattle.sd_types.specs.declared.events.Event.TheVariants.{Dispatch, Steal}
 use Rattle.sd_types.specs.declared.events.Hints.{Hints}
 use Rattle.sd_types.specs.declared.events.PrioAnswer.{PrioAnswer}
 use Rattle.sd_types.specs.declared.events.PrioAnswer.TheVariants.{Changed, Refused}
@@ -24,14 +24,15 @@ use Rattle.sd_machine.specs.Bodies.{aged_class}
 use Rattle.sd_machine.specs.Changes.{back_key}
 use Rattle.sd_machine.specs.Events.{after, next}
 use Rattle.sd_machine.specs.Runs.{IsReached, IsRun}
-use Rattle.sd_frames.specs.Moves.{Step, aged_step, bind_step, prio_step, put_step_if, reordered_step, step_of}
+use Rattle.sd_frames.specs.Moves.{Step, aged_step, bind_step, prio_step, put_step_if, reordered_step, step_of, Stride, Comes, Goes, Falls, Leaves, Wakes, WakesAny, Reorders, Rises, Changes, Binds, stride_of, step_by}
+use Rattle.sd_machine.specs.Threads.{thread_id}
 use Rattle.sd_invariants.proofs.Movers.{mover_there}
 use Rattle.sd_frames.proofs.PlaceTable.{Stepped, after_steps, step_needs}
 use Rattle.sd_invariants.proofs.Ready.{reached_ready, ready_cause}
 use Rattle.sd_invariants.proofs.Lasts.{brings, others_last}
 use Rattle.sd_homes.specs.Standing.{home_of, home_of_place}
 use Rattle.sd_world.specs.Homes.{index_of}
-use Rattle.sd_shared_rule.specs.Movers.{IsMover}
+use Rattle.sd_shared_rule.specs.Movers.{IsMover, strider}
 use Rattle.sd_shared_rule.specs.Places.{now, place_home, sizes}
 use Rattle.sd_shared_rule.proofs.Bridge.{now_push, reached, run_before, step_of as makes_of}
 
@@ -59,36 +60,26 @@ aged_goes w s n c t u to e = by (eff_as (aged_class w (thread_of s t).body.class
     by false q = cc
 
 -- the thread that the step moves is the event's mover
+stride_goes : (w : Work) (s : State) (n : ℕ) (c : CpuId) (o : Option Stride) (u : ℕ) (to : Place) → step_by w s n c o ≡ Step.Go u to → (x : ThreadId) × (strider o ≡ Some x) × (x.0 ≡ u)
+stride_goes w s n c None u to e = absurd cc
+stride_goes w s n c (Some (Comes t)) u to e = (thread_id t, refl, cc)
+stride_goes w s n c (Some (Goes t whither)) u to e = (thread_id t, refl, cc)
+stride_goes w s n c (Some (Falls t end)) u to e = (thread_id t, refl, cc)
+stride_goes w s n c (Some (Leaves t d)) u to e = (thread_id t, refl, cc)
+stride_goes w s n c (Some (Wakes t at)) u to e = (thread_id t, refl, cc)
+stride_goes w s n c (Some (WakesAny None)) u to e = absurd cc
+stride_goes w s n c (Some (WakesAny (Some x))) u to e = (x.0, refl, cc)
+stride_goes w s n c (Some (Reorders o at)) u to e = (o, refl, reordered_goes w n o.0 at (thread_of s o.0).place u to e)
+stride_goes w s n c (Some (Rises t)) u to e = (thread_id t, refl, aged_goes w s n c t u to e)
+stride_goes w s n c (Some (Changes t v answer)) u to e = (v, refl, prio_goes w s n v answer u to e)
+stride_goes w s n c (Some (Binds v answer)) u to e = (thread_id v, refl, bind_goes w n v answer u to e)
+
 goes : (w : Work) (s : State) (n : ℕ) (c : CpuId) (e : Event) (u : ℕ) (to : Place) → step_of w s n c e ≡ Step.Go u to → IsMover e u
-goes w s n c (Dispatch t p) u to e = (t, refl, cc)
-goes w s n c (Steal v t p) u to e = (t, refl, cc)
-goes w s n c (Preempt t end) u to e = (t, refl, cc)
-goes w s n c (Away t d) u to e = (t, refl, cc)
-goes w s n c (Yield t) u to e = (t, refl, cc)
-goes w s n c (Done t) u to e = (t, refl, cc)
-goes w s n c (Nap t) u to e = (t, refl, cc)
-goes w s n c (Napend t at) u to e = (t, refl, cc)
-goes w s n c (Sleep t k) u to e = (t, refl, cc)
-goes w s n c (Wake t k None) u to e = absurd cc
-goes w s n c (Wake t k (Some x)) u to e = (x.0, refl, cc)
-goes w s n c (Rouse k None) u to e = absurd cc
-goes w s n c (Rouse k (Some x)) u to e = (x.0, refl, cc)
-goes w s n c (Block t l) u to e = (t, refl, cc)
-goes w s n c (Will l o p at) u to e = (o, refl, reordered_goes w n o.0 at (thread_of s o.0).place u to e)
-goes w s n c (Unblock l t at) u to e = (t, refl, cc)
-goes w s n c (Grant l t at) u to e = (t, refl, cc)
-goes w s n c (Age t p) u to e = (t, refl, aged_goes w s n c t.0 u to e)
-goes w s n c (Prio t v answer) u to e = (v, refl, prio_goes w s n v answer u to e)
-goes w s n c (CvWait t k l) u to e = (t, refl, cc)
-goes w s n c (SemaWait t k) u to e = (t, refl, cc)
-goes w s n c (SemaVWake t k v at) u to e = (v, refl, cc)
-goes w s n c (Move t at) u to e = (t, refl, cc)
-goes w s n c (Bind t v d answer) u to e = (v, refl, bind_goes w n v.0 answer u to e)
-goes w s n c _ u to e = absurd cc
+goes w s n c e u to is = stride_goes w s n c (stride_of e) u to is
 
 brought : (e : Event) (t : ℕ) → brings e t ≡ true → IsMover e t
-brought (Dispatch u p) t e = (u, refl, eqb-true u.0 t e)
-brought (Steal v u p) t e = (u, refl, eqb-true u.0 t e)
+brought (Dispatch u p) t e = (thread_id u.0, refl, eqb-true u.0 t e)
+brought (Steal v u p) t e = (thread_id u.0, refl, eqb-true u.0 t e)
 brought _ t e = absurd cc
 
 same_place : (s new : State) (t : ℕ) → (thread_of new t).place ≡ (thread_of s t).place → (thread_of new t).body.last ≡ (thread_of s t).body.last → home_of (thread_of s t) ≡ home_of (thread_of new t)

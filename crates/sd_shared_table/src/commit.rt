@@ -39,7 +39,21 @@ fn mover(event: Event) -> Option<ThreadId>
         | Event::Bind { u, .. } => Some(u),
         Event::Will { o, .. } => Some(o),
         Event::Wake { woken: Some(u), .. } | Event::Rouse { woken: Some(u), .. } => Some(u.0),
-        _ => None,
+        Event::Wake { woken: None, .. } | Event::Rouse { woken: None, .. } => None,
+        Event::Tick { .. }
+        | Event::Spin { .. }
+        | Event::Idle
+        | Event::Wakeall { .. }
+        | Event::Enter { .. }
+        | Event::Read { .. }
+        | Event::Write { .. }
+        | Event::End { .. }
+        | Event::Exit { .. }
+        | Event::Passed { .. }
+        | Event::SemaP { .. }
+        | Event::SemaVCount { .. }
+        | Event::Assign { .. }
+        | Event::Joined { .. } => None,
     }
 }
 

@@ -11,7 +11,7 @@ use Rattle.sd_types.specs.declared.bodies.ThreadBody.{ThreadBody}
 use Rattle.sd_types.specs.declared.events.BindAnswer.{BindAnswer}
 use Rattle.sd_types.specs.declared.events.BindAnswer.TheVariants as bind_answer
 use Rattle.sd_types.specs.declared.events.Event.{Event}
-use Rattle.sd_types.specs.declared.events.Event.TheVariants.{Dispatch, Steal, Preempt, Yield, Done, Nap, Napend, Sleep, Wake, Rouse, Block, Will, Unblock, Grant, Age, Prio, CvWait, SemaWait, SemaVWake, Move, Bind, Away}
+use Rattle.sd_types.specs.declared.events.Event.TheVariants.{Dispatch, Steal, Napend, Wake, Rouse, Will, Unblock, Grant, Age, Prio, SemaVWake, Move, Bind}
 use Rattle.sd_types.specs.declared.events.PrioAnswer.{PrioAnswer}
 use Rattle.sd_types.specs.declared.events.PrioAnswer.TheVariants.{Changed, Refused}
 use Rattle.sd_types.specs.declared.events.Put.{Put}
@@ -29,7 +29,9 @@ use Rattle.sd_machine.specs.SetChanges.{bound_put, unbound_put, bind_put, bind_t
 use Rattle.sd_machine.specs.Threads.{runner, next_to_age, is_ts, is_asleep, is_asleep_below, is_due, is_waiting_at}
 use Rattle.sd_machine.proofs.Moves.{put_cases}
 use Rattle.sd_frames.specs.Causes.{WakesBest, RousesBest, IsCause}
-use Rattle.sd_frames.specs.Moves.{Step, put_step_if, woken_step, reordered_step, aged_step, prio_step, bind_step, step_of}
+use Rattle.sd_frames.specs.Moves.{Step, put_step_if, woken_step, reordered_step, aged_step, prio_step, bind_step, step_of, Stride, Goes as Strides, Falls, Leaves, leaver, stride_of, step_by}
+use Rattle.sd_machine.specs.Deeds.{ToQueue}
+use Rattle.sd_frames.proofs.Leavers.{leaver_runs}
 use Rattle.sd_frames.specs.Moves.Step.{Stay, Go}
 use Rattle.sd_invariants.proofs.AgreedAfter.{IsReady}
 use Rattle.sd_frames.proofs.Found.{runner_found, ready_found, queued_found, unbound_found, waiter_found, sleeper_found, sleeper_below_found, due_found, age_found}
@@ -150,6 +152,22 @@ bind_local w s n c t u d answer is = tt
 stops : (s : State) (c t : ℕ) (place : Place) → runner s c ≡ Some t → Apart c place → Goes s c t place
 stops s c t place runs to = record { to = to; from = runs_apart s c t runs }
 
+-- a thread that leaves the processor, or none at all
+abbrev is_own : Option Stride → Bool
+is_own None = true
+is_own (Some (Strides t whither)) = true
+is_own (Some (Falls t end)) = true
+is_own (Some (Leaves t d)) = true
+is_own _ = false
+
+own_local : (w : Work) (s : State) (n : ℕ) (c : CpuId) (stride : Option Stride) → is_own stride ≡ true → ((t : ℕ) → leaver stride ≡ Some t → runner s c.0 ≡ Some t) → Local s c.0 (step_by w s n c stride)
+own_local w s n c None own runs = tt
+own_local w s n c (Some (Strides t ToQueue)) own runs = stops s c.0 t _ (runs t refl) (queue_apart w t c (back_key n) (thread_of s t).body c.0)
+own_local w s n c (Some (Strides t whither)) own runs = stops s c.0 t _ (runs t refl) (λ x other. refl)
+own_local w s n c (Some (Falls t end)) own runs = stops s c.0 t _ (runs t refl) (queue_apart w t c (key_at n end) (thread_of s t).body c.0)
+own_local w s n c (Some (Leaves t d)) own runs = stops s c.0 t _ (runs t refl) (λ x other. refl)
+own_local w s n c _ own runs = cc
+
 -- the step of each event
 steps_local : (w : Work) (s : State) (n : ℕ) (c : CpuId) (e : Event) → IsCause w s c.0 e → Local s c.0 (step_of w s n c e)
 steps_local w s n c (Dispatch t p) cause = record {
@@ -160,28 +178,19 @@ steps_local w s n c (Steal v t p) cause = record {
   to = running_apart c.0 (Running c) (grind (arith, nat_tests));
   from = queued_apart c.0 v.0 (thread_of s t.0).place (and_left _ (is_none (thread_of s t.0).body.bound) (unbound_found s v.0 t.0 cause.3).stands);
 }
-steps_local w s n c (Preempt t end) cause = stops s c.0 t.0 _ cause.0.runs (queue_apart w t.0 c (key_at n end) (thread_of s t.0).body c.0)
-steps_local w s n c (Away t d) cause = stops s c.0 t.0 _ cause.0.runs (λ x other. refl)
-steps_local w s n c (Yield t) cause = stops s c.0 t.0 _ cause.runs (queue_apart w t.0 c (back_key n) (thread_of s t.0).body c.0)
-steps_local w s n c (Done t) cause = stops s c.0 t.0 _ cause.runs (λ x other. refl)
-steps_local w s n c (Nap t) cause = stops s c.0 t.0 _ cause.1.runs (λ x other. refl)
 steps_local w s n c (Napend t at) cause = put_local w s n c.0 t.0 at (due_apart c.0 c.0 (cpu_of s c.0).count (thread_of s t.0).place (due_found s c.0 t.0 cause.0).stands)
-steps_local w s n c (Sleep t k) cause = stops s c.0 t.0 _ cause.runs (λ x other. refl)
 steps_local w s n c (Wake t k u) cause = woken_local w s n c.0 k.0 u cause.1
 steps_local w s n c (Rouse k u) cause = roused_local w s n c.0 k.0 cause.0 u cause.2
-steps_local w s n c (Block t l) cause = stops s c.0 t.0 _ cause.1.acts.runs (λ x other. refl)
 steps_local w s n c (Will l o p at) cause = reordered_local w s n c.0 o.0 at (thread_of s o.0).place refl
 steps_local w s n c (Unblock l u at) cause = put_local w s n c.0 u.0 at (waiting_apart c.0 l.0 Writer (thread_of s u.0).place (waiter_found s l.0 Writer u.0 cause.1).stands)
 steps_local w s n c (Grant l u at) (inl cause) = put_local w s n c.0 u.0 at (waiting_apart c.0 l.0 Writer (thread_of s u.0).place (waiter_found s l.0 Writer u.0 cause.1).stands)
 steps_local w s n c (Grant l u at) (inr cause) = put_local w s n c.0 u.0 at (waiting_apart c.0 l.0 Reader (thread_of s u.0).place (waiter_found s l.0 Reader u.0 cause.1).stands)
 steps_local w s n c (Age t p) cause = aged_local w s n c (cause.0).0 t.0 cause.2
 steps_local w s n c (Prio t u answer) cause = prio_local w s n c.0 u answer
-steps_local w s n c (CvWait t k l) cause = stops s c.0 t.0 _ cause.runs (λ x other. refl)
-steps_local w s n c (SemaWait t k) cause = stops s c.0 t.0 _ cause.0.runs (λ x other. refl)
 steps_local w s n c (SemaVWake t k u at) cause = put_local w s n c.0 u.0 at (asleep_apart c.0 k.0 (thread_of s u.0).place (sleeper_found s k.0 u.0 cause.1.best).stands)
 steps_local w s n c (Move t at) cause = put_local w s n c.0 t.0 at (queued_apart c.0 c.0 (thread_of s t.0).place (queued_found s c.0 t.0 cause.1).stands)
 steps_local w s n c (Bind t u d answer) cause = bind_local w s n c.0 t.0 u.0 d answer cause.1
-steps_local w s n c e cause = tt
+steps_local w s n c e cause = own_local w s n c (stride_of e) refl (leaver_runs w s c.0 e cause)
 
 -- The states before and after.
 

@@ -11,7 +11,7 @@ ghost use Rattle.sd_stretches.specs.declared.spin_pieces.Track.TheVariants as tr
 use crate::activities::{Activity, spans_of};
 use crate::rows::{Measure, Row, Subject, all_of, count_figures, push_row};
 use crate::spans::{Span, state_after, summary_of};
-use sd_stretches::{HandOver, Happening, History, Stretch, Track, is_that_thread, pieces};
+use sd_stretches::{ByThread, HandOver, Happening, Stretch, Track, is_that_thread, pieces};
 use sd_types::{Event, LockId, ThreadId, Work};
 use std::alloc::{AllocError, Global};
 
@@ -298,24 +298,29 @@ fn hand_overs(l: u16, all: &[HandOver]) -> usize
 fn push_lock(
     alloc: Global,
     work: &Work,
-    history: &History,
+    history: &ByThread,
     all: &[Stretch],
     l: u16,
     out: &mut Vec<Row>,
 ) -> Result<(), AllocError>
     ensures { OnOk result (out.new.items ≡ out.old.items ++ lock_part work.now history.now all.now l) }
 {
-    let own = lock_entries(alloc, l, &history.happenings)?;
-    push_held(alloc, work, history.entries, l, &own, out)?;
+    let own = lock_entries(alloc, l, &history.history.happenings)?;
+    push_held(alloc, work, history.history.entries, l, &own, out)?;
     push_waits(alloc, l, all, out)?;
-    push_count(l, Measure::HandsOn, hand_overs(l, &history.hand_overs), out)
+    push_count(
+        l,
+        Measure::HandsOn,
+        hand_overs(l, &history.history.hand_overs),
+        out,
+    )
 }
 
 // The pieces of the stretches of thread `t`, behind those that were found before.
 fn push_pieces(
     alloc: Global,
     work: &Work,
-    history: &History,
+    history: &ByThread,
     t: usize,
     all: &mut Vec<Stretch>,
 ) -> Result<(), AllocError>
@@ -327,7 +332,7 @@ fn push_pieces(
 
 // The pieces of the stretches of all threads.
 #[tactic(auto, unfolding(crate::specs::Locks::all_pieces))]
-fn all_pieces(alloc: Global, work: &Work, history: &History) -> Result<Vec<Stretch>, AllocError>
+fn all_pieces(alloc: Global, work: &Work, history: &ByThread) -> Result<Vec<Stretch>, AllocError>
     ensures { IfOk result (λ v. v.items ≡ all_pieces work.now history.now) }
 {
     let mut all = Vec::new(alloc);
@@ -341,7 +346,7 @@ fn all_pieces(alloc: Global, work: &Work, history: &History) -> Result<Vec<Stret
 /// longest with its holder; how often a thread had to spin or wait before it took the lock; how long threads wait and spin for it; and
 /// how often its owner is given the priority of those who wait. A row that would have nothing to count is left out.
 #[tactic(auto, unfolding(crate::specs::Locks::lock_rows))]
-pub fn lock_rows(alloc: Global, work: &Work, history: &History) -> Result<Vec<Row>, AllocError>
+pub fn lock_rows(alloc: Global, work: &Work, history: &ByThread) -> Result<Vec<Row>, AllocError>
     ensures { IfOk result (λ v. v.items ≡ lock_rows work.now history.now) }
 {
     let all = all_pieces(alloc, work, history)?;

@@ -11,7 +11,7 @@ use crate::delays::delays_of;
 use crate::inherited::{all_inherited, greatest_inherited};
 use crate::rows::{Figures, Measure, Row, Subject, all_of, push_row, tick_figures};
 use crate::spans::summary_of;
-use sd_stretches::{History, Level, Stretch, Track, Wakeup, levels, pieces, stretches};
+use sd_stretches::{ByThread, Level, Stretch, Track, Wakeup, levels, pieces, stretches};
 use sd_types::{LockId, Work};
 use std::alloc::{AllocError, Global};
 
@@ -164,15 +164,15 @@ fn push_inherited(t: usize, own: &[Level], out: &mut Vec<Row>) -> Result<(), All
 fn push_others(
     alloc: Global,
     work: &Work,
-    history: &History,
+    history: &ByThread,
     t: usize,
     out: &mut Vec<Row>,
 ) -> Result<(), AllocError>
     ensures { OnOk result (out.new.items ≡ out.old.items ++ other_rows work.now history.now t) }
 {
-    let own = stretches(alloc, &history.onsets, t, history.entries, work.limit)?;
-    push_delay_row(alloc, t, &own, &history.wakeups, out)?;
-    let own = levels(alloc, &history.ranks, t, work.limit)?;
+    let own = stretches(alloc, history, t, work.limit)?;
+    push_delay_row(alloc, t, &own, &history.history.wakeups, out)?;
+    let own = levels(alloc, history, t, work.limit)?;
     push_inherited(t, &own, out)
 }
 
@@ -180,7 +180,7 @@ fn push_others(
 fn push_thread(
     alloc: Global,
     work: &Work,
-    history: &History,
+    history: &ByThread,
     t: usize,
     out: &mut Vec<Row>,
 ) -> Result<(), AllocError>
@@ -195,7 +195,7 @@ fn push_thread(
 /// the ticks that lie in two states; the time from its wakeups to its running; and its inherited priority. A row that would have
 /// nothing to count is left out.
 #[tactic(auto, unfolding(crate::specs::Threads::thread_rows))]
-pub fn thread_rows(alloc: Global, work: &Work, history: &History) -> Result<Vec<Row>, AllocError>
+pub fn thread_rows(alloc: Global, work: &Work, history: &ByThread) -> Result<Vec<Row>, AllocError>
     ensures { IfOk result (λ v. v.items ≡ thread_rows work.now history.now) }
 {
     let mut rows = Vec::new(alloc);

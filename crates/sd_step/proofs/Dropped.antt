@@ -12,7 +12,7 @@ use Rattle.sd_types.specs.declared.events.BindAnswer.TheVariants as bind
 use Rattle.sd_types.specs.declared.events.Duty.{Duty}
 use Rattle.sd_types.specs.declared.events.Duty.TheVariants as duty
 use Rattle.sd_types.specs.declared.events.Event.{Event}
-use Rattle.sd_types.specs.declared.events.Event.TheVariants.{Tick, Spin, Idle, Steal, Preempt, Away, Yield, Done, Nap, Napend, Sleep, Wake, Wakeall, Rouse, Enter, Read, Write, Block, Will, Exit, Unblock, Grant, Age, Prio, CvWait, SemaP, SemaWait, SemaVWake, SemaVCount, Assign, Move, Bind}
+use Rattle.sd_types.specs.declared.events.Event.TheVariants.{Tick, Spin, Will, Exit, Prio, Assign}
 use Rattle.sd_types.specs.declared.events.PrioAnswer.{PrioAnswer}
 use Rattle.sd_types.specs.declared.events.PrioAnswer.TheVariants.{Changed, Refused}
 use Rattle.sd_types.specs.declared.events.Put.{Put}
@@ -25,7 +25,9 @@ use Rattle.sd_state.specs.States.{thread_of, cpu_of, no_cpu, with_cpu}
 use Rattle.sd_state.specs.Operations.{op_of}
 use Rattle.sd_machine.specs.Changes.{cpu_put, set_duty}
 use Rattle.sd_machine.specs.Events.{drop_ageing, dropped_duty, keeps_ageing}
-use Rattle.sd_machine.specs.Needs.{CanAct, CanBeBound, CanBeChanged, CanBind, CanUnbind, IsBindPut, IsPrioPut, IsPutIf, IsWoken, Needs, RunsThere}
+use Rattle.sd_machine.specs.Needs.{CanAct, CanBeBound, CanBeChanged, CanBind, CanUnbind, IsBindPut, IsPrioPut, IsPutIf, IsWoken, Need, Met, Needs, RunsThere}
+use Rattle.sd_machine.specs.Needs.Need.{Cpu, SetOf, At, AtIf, Woken, PlaceOf, Acts, Stays, Ticks, Naps, Holds, Inherits, Receives, IsChanged, IsBound}
+use Rattle.sd_machine.proofs.NeedLemmas.{needs_met}
 use Rattle.sd_machine.specs.Sleeping.{nap_ticks}
 use Rattle.sd_machine.specs.Threads.{runner}
 use Rattle.sd_dispatcher.specs.Touched.{reordered_parts}
@@ -137,40 +139,27 @@ module _ (w : Work) (s : State) (c : CpuId) (d : Duty) where
   unfolding set_duty
   nap_left t n = count_left (λ m. m + nap_ticks (op_of w t.0 (thread_of s t.0).body) < 2 ^ 32) n
 
-  pub needs_left : (e : Event) → Needs w s c e → Needs w (set_duty s c.0 d) c e
+  need_left : (a : Need) → Met w s c a → Met w (set_duty s c.0 d) c a
   unfolding set_duty runner
-  needs_left (Tick t) n = (acts_left t n.0, tick_left n.1)
-  needs_left (Spin t l) n = (record { thread = n.0.thread; place = n.0.place }, n.1, tick_left n.2)
-  needs_left Idle n = tick_left n
-  needs_left (Steal v t p) n = (n.0, n.1, cpu_left v n.2)
-  needs_left (Preempt t end) n = record { thread = n.thread; place = n.place }
-  needs_left (Away t f) n = (record { thread = n.0.thread; place = n.0.place }, cpu_left f n.1)
-  needs_left (Yield t) n = acts_left t n
-  needs_left (Done t) n = record { thread = n.thread; place = n.place }
-  needs_left (Nap t) n = (acts_left t n.0, nap_left t n.1)
-  needs_left (Napend t at) n = (n.0, cpu_left (cpu_put at) n.1)
-  needs_left (Sleep t k) n = (acts_left t n.0, n.1)
-  needs_left (Wake t k u) n = (acts_left t n.0, n.1, woken_left u n.2)
-  needs_left (Wakeall t k) n = (acts_left t n.0, n.1)
-  needs_left (Rouse k u) n = (n.0, woken_left u n.1)
-  needs_left (Enter t l) n = (acts_left t n.0, n.1, record { room = n.2.room; apart = n.2.apart })
-  needs_left (Read t l) n = (acts_left t n.0, n.1, record { room = n.2.room; apart = n.2.apart }, n.3)
-  needs_left (Write t l) n = (acts_left t n.0, n.1, record { room = n.2.room; apart = n.2.apart })
-  needs_left (Block t l) n = (record { thread = n.0.thread; place = n.0.place }, n.1)
-  needs_left (Will l o p at) n = (n.0, n.1, record { sound = n.2.sound; held = n.2.held; below = n.2.below }, put_left_if at n.3, runs_left o n.4)
-  needs_left (Exit t l) n = (acts_left t n.0, n.1)
-  needs_left (Unblock l u at) n = (n.0, n.1, cpu_left (cpu_put at) n.2)
-  needs_left (Grant l u at) n = (n.0, cpu_left (cpu_put at) n.1, record { thread = n.2.thread; op = n.2.op; room = n.2.room; apart = n.2.apart; sound = n.2.sound; below = n.2.below; more = n.2.more })
-  needs_left (Prio t u answer) n = (acts_left t n.0, changed_left t u answer n.1)
-  needs_left (CvWait t k l) n = (acts_left t n.0, n.1, n.2)
-  needs_left (SemaP t k) n = (acts_left t n.0, n.1)
-  needs_left (SemaWait t k) n = (acts_left t n.0, n.1)
-  needs_left (SemaVWake t k u at) n = (acts_left t n.0, n.1, n.2, cpu_left (cpu_put at) n.3)
-  needs_left (SemaVCount t k m) n = (acts_left t n.0, n.1, n.2)
-  needs_left (Assign t f to answer) n = (acts_left t n.0, cpu_left f n.1, n.2, set_left (λ m. m < length s.open_cpus) f.0 n.3)
-  needs_left (Move t at) n = (n.0, cpu_left (cpu_put at) n.1)
-  needs_left (Bind t u f answer) n = (acts_left t n.0, bound_kept u f answer n.1)
-  needs_left e n = n
+  need_left (Cpu e) n = cpu_left e n
+  need_left (SetOf e) n = set_left (λ m. m < length s.open_cpus) e.0 n
+  need_left (At at) n = cpu_left (cpu_put at) n
+  need_left (AtIf at) n = put_left_if at n
+  need_left (Woken u) n = woken_left u n
+  need_left (PlaceOf t) n = runs_left t n
+  need_left (Acts t) n = acts_left t n
+  need_left (Stays t) n = record { thread = n.thread; place = n.place }
+  need_left Ticks n = tick_left n
+  need_left (Naps t) n = nap_left t n
+  need_left (Holds t l) n = record { room = n.room; apart = n.apart }
+  need_left (Inherits o l) n = record { sound = n.sound; held = n.held; below = n.below }
+  need_left (Receives u l) n = record { thread = n.thread; op = n.op; room = n.room; apart = n.apart; sound = n.sound; below = n.below; more = n.more }
+  need_left (IsChanged t u answer) n = changed_left t u answer n
+  need_left (IsBound u e answer) n = bound_kept u e answer n
+  need_left _ n = n
+
+  pub needs_left : (e : Event) → Needs w s c e → Needs w (set_duty s c.0 d) c e
+  needs_left e n = needs_met w s (set_duty s c.0 d) c (λ a met. need_left a met) e n
 
   ready_left : (e : CpuId) → ready_parts (set_duty s c.0 d) e ≡ ready_parts s e
   unfolding set_duty

@@ -6,12 +6,14 @@ mod locks;
 mod requests;
 mod rows;
 mod running;
+mod scene;
 mod selections;
 mod sentences;
 mod sleeping;
 mod telling;
 mod words;
 
+pub use scene::Scene;
 pub use selections::{Selection, has_thread};
 pub use sentences::put_sentence;
 pub use telling::tell;

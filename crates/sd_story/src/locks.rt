@@ -2,27 +2,29 @@
 //!
 //! Source: Solaris Internals (adaptive mutexes, rwlocks, turnstiles, priority inheritance).
 
-ghost use Rattle.std.specs.Prelude.{◌≡◌, ◌++◌, [], OnOk, codes};
+ghost use Rattle.std.specs.Prelude.{◌≡◌, ◌++◌, [], None, OnOk, codes};
 ghost use Rattle.sd_state.specs.States.{eff_of};
+ghost use Rattle.sd_machine.specs.Bodies.{eff_as_with};
 ghost use Rattle.sd_machine.specs.Threads.{lock_of};
 ghost use Rattle.sd_story.specs.Locks.{block_sentence, block_words, end_sentence, end_words, enter_sentence, exit_sentence, fall_words, grant_sentence, left_priority, passed_sentence, read_sentence, unblock_sentence, waiters_words, waiting_with, will_sentence, write_sentence};
 ghost use Rattle.sd_story.specs.Words.{change_words, number_then, thread_then};
 
-use crate::running::lock_of;
+use crate::scene::Scene;
 use crate::words::{
     put_change, put_cpu, put_lock, put_priority, put_requeued, put_runnable, put_thread, put_words,
 };
-use sd_flat::{greater, greatest_waiting, greatest_without, has_waiters};
-use sd_state::{LockState, State};
-use sd_types::{CpuId, LockId, Put, ThreadId, Work};
+use sd_flat::{greater, greatest_without};
+use sd_state::LockState;
+use sd_types::{CpuId, LockId, Put, ThreadBody, ThreadId, Work};
 use std::alloc::AllocError;
 
 /// The effective priority of a thread; of a number that is out of range that of a thread that has ended.
-pub(crate) fn effective(s: &State, t: ThreadId) -> u8
-    ensures { result ≡ eff_of s.now t.0 }
+pub(crate) fn effective<S: Scene>(s: &S, t: ThreadId) -> u8
+    requires good { S.good s.now }
+    ensures { result ≡ eff_of (S.state s.now) t.0 }
 {
-    match s.threads.items().get(t.0 as usize) {
-        Some(x) => x.body.effective(),
+    match s.body(t) {
+        Some(body) => body.effective(),
         None => 60,
     }
 }
@@ -64,10 +66,11 @@ pub(crate) fn put_write(
 }
 
 // The greatest priority that will wait for the lock with a thread.
-fn waiting_with(s: &State, t: ThreadId, l: LockId) -> u8
-    ensures { result ≡ waiting_with s.now t l }
+fn waiting_with<S: Scene>(s: &S, t: ThreadId, l: LockId) -> u8
+    requires good { S.good s.now }
+    ensures { result ≡ waiting_with (S.state s.now) t l }
 {
-    greater(effective(s, t), greatest_waiting(s, l))
+    greater(effective(s, t), s.greatest(l))
 }
 
 fn put_owner(work: &Work, o: ThreadId, p: u8, out: &mut Vec<u8>) -> Result<(), AllocError>
@@ -89,26 +92,28 @@ fn put_block_words(work: &Work, p: u8, lock: LockState, out: &mut Vec<u8>) -> Re
 }
 
 // Who holds a lock for which a thread blocks.
-fn put_holder(
+fn put_holder<S: Scene>(
     work: &Work,
-    s: &State,
+    s: &S,
     t: ThreadId,
     l: LockId,
     out: &mut Vec<u8>,
 ) -> Result<(), AllocError>
-    ensures { OnOk result (out.new.items ≡ out.old.items ++ block_words work.now (waiting_with s.now t l) (lock_of s.now l.0)) }
+    requires good { S.good s.now }
+    ensures { OnOk result (out.new.items ≡ out.old.items ++ block_words work.now (waiting_with (S.state s.now) t l) (lock_of (S.state s.now) l.0)) }
 {
-    put_block_words(work, waiting_with(s, t, l), lock_of(s, l), out)
+    put_block_words(work, waiting_with(s, t, l), s.lock(l), out)
 }
 
-pub(crate) fn put_block(
+pub(crate) fn put_block<S: Scene>(
     work: &Work,
-    s: &State,
+    s: &S,
     t: ThreadId,
     l: LockId,
     out: &mut Vec<u8>,
 ) -> Result<(), AllocError>
-    ensures { OnOk result (out.new.items ≡ out.old.items ++ block_sentence work.now s.now t l) }
+    requires good { S.good s.now }
+    ensures { OnOk result (out.new.items ≡ out.old.items ++ block_sentence work.now (S.state s.now) t l) }
 {
     put_thread(work, t, b" blocks on ", out)?;
     put_lock(work, l, b"", out)?;
@@ -116,27 +121,29 @@ pub(crate) fn put_block(
 }
 
 /// How the priority of a thread changes to another.
-pub(crate) fn put_change_of(
-    s: &State,
+pub(crate) fn put_change_of<S: Scene>(
+    s: &S,
     t: ThreadId,
     p: u8,
     out: &mut Vec<u8>,
 ) -> Result<(), AllocError>
-    ensures { OnOk result (out.new.items ≡ out.old.items ++ change_words (eff_of s.now t.0) p) }
+    requires good { S.good s.now }
+    ensures { OnOk result (out.new.items ≡ out.old.items ++ change_words (eff_of (S.state s.now) t.0) p) }
 {
     put_change(effective(s, t), p, out)
 }
 
-pub(crate) fn put_will(
+pub(crate) fn put_will<S: Scene>(
     work: &Work,
-    s: &State,
+    s: &S,
     l: LockId,
     o: ThreadId,
     p: u8,
     at: Option<Put>,
     out: &mut Vec<u8>,
 ) -> Result<(), AllocError>
-    ensures { OnOk result (out.new.items ≡ out.old.items ++ will_sentence work.now s.now l o p at) }
+    requires good { S.good s.now }
+    ensures { OnOk result (out.new.items ≡ out.old.items ++ will_sentence work.now (S.state s.now) l o p at) }
 {
     put_thread(work, o, b" inherits through ", out)?;
     put_lock(work, l, b": its priority ", out)?;
@@ -156,31 +163,41 @@ fn end_words(lock: LockState) -> &'static [u8]
 }
 
 // Why a walk ends at a lock.
-fn put_end_words(s: &State, l: LockId, out: &mut Vec<u8>) -> Result<(), AllocError>
-    ensures { OnOk result (out.new.items ≡ out.old.items ++ end_words (lock_of s.now l.0)) }
+fn put_end_words<S: Scene>(s: &S, l: LockId, out: &mut Vec<u8>) -> Result<(), AllocError>
+    requires good { S.good s.now }
+    ensures { OnOk result (out.new.items ≡ out.old.items ++ end_words (lock_of (S.state s.now) l.0)) }
 {
-    put_words(end_words(lock_of(s, l)), out)
+    put_words(end_words(s.lock(l)), out)
 }
 
-pub(crate) fn put_end(
+pub(crate) fn put_end<S: Scene>(
     work: &Work,
-    s: &State,
+    s: &S,
     l: LockId,
     out: &mut Vec<u8>,
 ) -> Result<(), AllocError>
-    ensures { OnOk result (out.new.items ≡ out.old.items ++ end_sentence work.now s.now l) }
+    requires good { S.good s.now }
+    ensures { OnOk result (out.new.items ≡ out.old.items ++ end_sentence work.now (S.state s.now) l) }
 {
     put_words(b"the walk ends at ", out)?;
     put_lock(work, l, b"", out)?;
     put_end_words(s, l, out)
 }
 
-// The effective priority of a thread without what it inherits through a lock.
-fn left_priority(s: &State, t: ThreadId, l: LockId) -> u8
-    ensures { result ≡ left_priority s.now t l }
+// The effective priority of a body without what it inherits through a lock.
+fn left_of(body: &ThreadBody, l: LockId) -> u8
+    ensures { result ≡ eff_as_with body.now.class l None body.now }
 {
-    match s.threads.items().get(t.0 as usize) {
-        Some(x) => greatest_without(x.body.class.base(), l, x.body.willed.as_slice()),
+    greatest_without(body.class.base(), l, body.willed.as_slice())
+}
+
+// The same of a thread.
+fn left_priority<S: Scene>(s: &S, t: ThreadId, l: LockId) -> u8
+    requires good { S.good s.now }
+    ensures { result ≡ left_priority (S.state s.now) t l }
+{
+    match s.body(t) {
+        Some(body) => left_of(body, l),
         None => 60,
     }
 }
@@ -204,37 +221,41 @@ fn put_fall(before: u8, after: u8, out: &mut Vec<u8>) -> Result<(), AllocError>
 }
 
 #[tactic(auto, unfolding(crate::specs::Locks::waiters_words))]
-fn waiters_words(s: &State, l: LockId) -> &'static [u8]
-    ensures { result.now ≡ waiters_words s.now l }
+fn waiters_words<S: Scene>(s: &S, l: LockId) -> &'static [u8]
+    requires good { S.good s.now }
+    ensures { result.now ≡ waiters_words (S.state s.now) l }
 {
-    if has_waiters(s, l) {
+    if s.waits(l) {
         b", for which others wait"
     } else {
         b", for which nobody waits"
     }
 }
 
-fn put_waiters_words(s: &State, l: LockId, out: &mut Vec<u8>) -> Result<(), AllocError>
-    ensures { OnOk result (out.new.items ≡ out.old.items ++ waiters_words s.now l) }
+fn put_waiters_words<S: Scene>(s: &S, l: LockId, out: &mut Vec<u8>) -> Result<(), AllocError>
+    requires good { S.good s.now }
+    ensures { OnOk result (out.new.items ≡ out.old.items ++ waiters_words (S.state s.now) l) }
 {
     put_words(waiters_words(s, l), out)
 }
 
 // What a thread loses that it inherited through a lock.
-fn put_fall_of(s: &State, t: ThreadId, l: LockId, out: &mut Vec<u8>) -> Result<(), AllocError>
-    ensures { OnOk result (out.new.items ≡ out.old.items ++ fall_words (eff_of s.now t.0) (left_priority s.now t l)) }
+fn put_fall_of<S: Scene>(s: &S, t: ThreadId, l: LockId, out: &mut Vec<u8>) -> Result<(), AllocError>
+    requires good { S.good s.now }
+    ensures { OnOk result (out.new.items ≡ out.old.items ++ fall_words (eff_of (S.state s.now) t.0) (left_priority (S.state s.now) t l)) }
 {
     put_fall(effective(s, t), left_priority(s, t, l), out)
 }
 
-pub(crate) fn put_exit(
+pub(crate) fn put_exit<S: Scene>(
     work: &Work,
-    s: &State,
+    s: &S,
     t: ThreadId,
     l: LockId,
     out: &mut Vec<u8>,
 ) -> Result<(), AllocError>
-    ensures { OnOk result (out.new.items ≡ out.old.items ++ exit_sentence work.now s.now t l) }
+    requires good { S.good s.now }
+    ensures { OnOk result (out.new.items ≡ out.old.items ++ exit_sentence work.now (S.state s.now) t l) }
 {
     put_thread(work, t, b" gives up ", out)?;
     put_lock(work, l, b"", out)?;

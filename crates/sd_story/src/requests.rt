@@ -8,21 +8,22 @@ ghost use Rattle.sd_story.specs.Requests.{age_sentence, assign_sentence, assign_
 ghost use Rattle.sd_story.specs.Words.{change_words, cpu_then, requeued_words, thread_then};
 
 use crate::locks::{effective, put_change_of};
+use crate::scene::Scene;
 use crate::words::{
     put_change, put_cpu, put_requeued, put_runnable, put_set, put_thread, put_words,
 };
-use sd_state::State;
 use sd_types::{AssignAnswer, BindAnswer, CpuId, Denied, PrioAnswer, Put, SetId, ThreadId, Work};
 use std::alloc::AllocError;
 
-pub(crate) fn put_age(
+pub(crate) fn put_age<S: Scene>(
     work: &Work,
-    s: &State,
+    s: &S,
     t: ThreadId,
     p: u8,
     out: &mut Vec<u8>,
 ) -> Result<(), AllocError>
-    ensures { OnOk result (out.new.items ≡ out.old.items ++ age_sentence work.now s.now t p) }
+    requires good { S.good s.now }
+    ensures { OnOk result (out.new.items ≡ out.old.items ++ age_sentence work.now (S.state s.now) t p) }
 {
     put_thread(work, t, b" has waited a second more: its priority ", out)?;
     put_change_of(s, t, p, out)
@@ -56,26 +57,28 @@ fn put_prio_words(before: u8, answer: PrioAnswer, out: &mut Vec<u8>) -> Result<(
 }
 
 // What becomes of the priority of a thread.
-fn put_answer(
-    s: &State,
+fn put_answer<S: Scene>(
+    s: &S,
     u: ThreadId,
     answer: PrioAnswer,
     out: &mut Vec<u8>,
 ) -> Result<(), AllocError>
-    ensures { OnOk result (out.new.items ≡ out.old.items ++ prio_words (eff_of s.now u.0) answer) }
+    requires good { S.good s.now }
+    ensures { OnOk result (out.new.items ≡ out.old.items ++ prio_words (eff_of (S.state s.now) u.0) answer) }
 {
     put_prio_words(effective(s, u), answer, out)
 }
 
-pub(crate) fn put_prio(
+pub(crate) fn put_prio<S: Scene>(
     work: &Work,
-    s: &State,
+    s: &S,
     t: ThreadId,
     u: ThreadId,
     answer: PrioAnswer,
     out: &mut Vec<u8>,
 ) -> Result<(), AllocError>
-    ensures { OnOk result (out.new.items ≡ out.old.items ++ prio_sentence work.now s.now t u answer) }
+    requires good { S.good s.now }
+    ensures { OnOk result (out.new.items ≡ out.old.items ++ prio_sentence work.now (S.state s.now) t u answer) }
 {
     put_thread(work, t, b" sets the class or priority of ", out)?;
     put_thread(work, u, b"", out)?;

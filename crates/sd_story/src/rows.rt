@@ -7,9 +7,9 @@ ghost use Rattle.sd_story.specs.Selections.{tick_of};
 ghost use Rattle.sd_story.specs.Story.{cell, line_blanks, row, row_if, tick_blanks};
 
 use crate::put_sentence;
+use crate::scene::Scene;
 use crate::selections::{Selection, is_told, tick_of};
 use sd_entries::write_entry;
-use sd_state::State;
 use sd_text::put_number;
 use sd_types::{Entry, Work};
 use std::alloc::{AllocError, Global};
@@ -33,8 +33,14 @@ fn put_tick(alloc: Global, tick: u32, out: &mut Vec<u8>) -> Result<(), AllocErro
 }
 
 // The count of its processor before an entry.
-fn put_tick_of(alloc: Global, s: &State, entry: &Entry, out: &mut Vec<u8>) -> Result<(), AllocError>
-    ensures { OnOk result (out.new.items ≡ out.old.items ++ cell tick_blanks (decimal (tick_of s.now entry.now))) }
+fn put_tick_of<S: Scene>(
+    alloc: Global,
+    s: &S,
+    entry: &Entry,
+    out: &mut Vec<u8>,
+) -> Result<(), AllocError>
+    requires good { S.good s.now }
+    ensures { OnOk result (out.new.items ≡ out.old.items ++ cell tick_blanks (decimal (tick_of (S.state s.now) entry.now))) }
 {
     put_tick(alloc, tick_of(s, entry), out)
 }
@@ -49,8 +55,14 @@ fn put_line(alloc: Global, work: &Work, entry: &Entry, out: &mut Vec<u8>) -> Res
 }
 
 // The sentence on an entry.
-fn put_words(work: &Work, s: &State, entry: &Entry, out: &mut Vec<u8>) -> Result<(), AllocError>
-    ensures { OnOk result (out.new.items ≡ out.old.items ++ sentence work.now s.now entry.now.cpu entry.now.event) }
+fn put_words<S: Scene>(
+    work: &Work,
+    s: &S,
+    entry: &Entry,
+    out: &mut Vec<u8>,
+) -> Result<(), AllocError>
+    requires good { S.good s.now }
+    ensures { OnOk result (out.new.items ≡ out.old.items ++ sentence work.now (S.state s.now) entry.now.cpu entry.now.event) }
 {
     put_sentence(work, s, entry.cpu, &entry.event, out)
 }
@@ -61,14 +73,15 @@ fn put_newline(out: &mut Vec<u8>) -> Result<(), AllocError>
     out.extend_from_slice(b"\n")
 }
 
-fn put_row(
+fn put_row<S: Scene>(
     alloc: Global,
     work: &Work,
-    s: &State,
+    s: &S,
     entry: &Entry,
     out: &mut Vec<u8>,
 ) -> Result<(), AllocError>
-    ensures { OnOk result (out.new.items ≡ out.old.items ++ row work.now s.now entry.now) }
+    requires good { S.good s.now }
+    ensures { OnOk result (out.new.items ≡ out.old.items ++ row work.now (S.state s.now) entry.now) }
 {
     put_tick_of(alloc, s, entry, out)?;
     put_line(alloc, work, entry, out)?;
@@ -78,15 +91,16 @@ fn put_row(
 
 /// The row of an entry that is made in the state, where it is told.
 #[tactic(auto, unfolding(crate::specs::Story::row_if))]
-pub(crate) fn put_row_if(
+pub(crate) fn put_row_if<S: Scene>(
     alloc: Global,
     work: &Work,
     selection: &Selection,
-    s: &State,
+    s: &S,
     entry: &Entry,
     out: &mut Vec<u8>,
 ) -> Result<(), AllocError>
-    ensures { OnOk result (out.new.items ≡ out.old.items ++ row_if work.now selection.now s.now entry.now) }
+    requires good { S.good s.now }
+    ensures { OnOk result (out.new.items ≡ out.old.items ++ row_if work.now selection.now (S.state s.now) entry.now) }
 {
     if is_told(work, selection, s, entry) {
         put_row(alloc, work, s, entry, out)

@@ -8,9 +8,10 @@ ghost use Rattle.sd_machine.specs.Threads.{lock_of};
 ghost use Rattle.sd_story.specs.Running.{away_sentence, dispatch_sentence, idle_sentence, preempt_sentence, quantum_words, spin_sentence, spin_words, steal_sentence, tick_sentence};
 ghost use Rattle.sd_story.specs.Words.{thread_then};
 
+use crate::scene::Scene;
 use crate::words::{put_cpu, put_lock, put_priority, put_thread, put_words};
 use sd_class::class_expires;
-use sd_state::{LockState, State};
+use sd_state::LockState;
 use sd_types::{ClassState, CpuId, End, LockId, ThreadId, Work};
 use std::alloc::AllocError;
 
@@ -25,42 +26,34 @@ fn quantum_words(class: &ClassState) -> &'static [u8]
 }
 
 // Whether the next tick of a thread is the last of its quantum.
-fn quantum_words_of(s: &State, t: ThreadId) -> &'static [u8]
-    ensures { result.now ≡ quantum_words (thread_of s.now t.0).body.class }
+fn quantum_words_of<S: Scene>(s: &S, t: ThreadId) -> &'static [u8]
+    requires good { S.good s.now }
+    ensures { result.now ≡ quantum_words (thread_of (S.state s.now) t.0).body.class }
 {
-    match s.threads.items().get(t.0 as usize) {
-        Some(x) => quantum_words(&x.body.class),
+    match s.body(t) {
+        Some(body) => quantum_words(&body.class),
         None => b"",
     }
 }
 
-fn put_quantum_words(s: &State, t: ThreadId, out: &mut Vec<u8>) -> Result<(), AllocError>
-    ensures { OnOk result (out.new.items ≡ out.old.items ++ quantum_words (thread_of s.now t.0).body.class) }
+fn put_quantum_words<S: Scene>(s: &S, t: ThreadId, out: &mut Vec<u8>) -> Result<(), AllocError>
+    requires good { S.good s.now }
+    ensures { OnOk result (out.new.items ≡ out.old.items ++ quantum_words (thread_of (S.state s.now) t.0).body.class) }
 {
     put_words(quantum_words_of(s, t), out)
 }
 
-pub(crate) fn put_tick(
+pub(crate) fn put_tick<S: Scene>(
     work: &Work,
-    s: &State,
+    s: &S,
     t: ThreadId,
     out: &mut Vec<u8>,
 ) -> Result<(), AllocError>
-    ensures { OnOk result (out.new.items ≡ out.old.items ++ tick_sentence work.now s.now t) }
+    requires good { S.good s.now }
+    ensures { OnOk result (out.new.items ≡ out.old.items ++ tick_sentence work.now (S.state s.now) t) }
 {
     put_thread(work, t, b" runs for a tick", out)?;
     put_quantum_words(s, t, out)
-}
-
-/// The state of a lock; a number that is out of range reads a free one.
-pub(crate) fn lock_of(s: &State, l: LockId) -> LockState
-    ensures { result ≡ lock_of s.now l.0 }
-{
-    s.locks
-        .items()
-        .get(l.0 as usize)
-        .copied()
-        .unwrap_or(LockState::Free)
 }
 
 fn put_owner_runs(work: &Work, o: ThreadId, out: &mut Vec<u8>) -> Result<(), AllocError>
@@ -81,20 +74,22 @@ fn put_spin_words(work: &Work, lock: LockState, out: &mut Vec<u8>) -> Result<(),
 }
 
 // Why a thread spins for a lock.
-fn put_reason(work: &Work, s: &State, l: LockId, out: &mut Vec<u8>) -> Result<(), AllocError>
-    ensures { OnOk result (out.new.items ≡ out.old.items ++ spin_words work.now (lock_of s.now l.0)) }
+fn put_reason<S: Scene>(work: &Work, s: &S, l: LockId, out: &mut Vec<u8>) -> Result<(), AllocError>
+    requires good { S.good s.now }
+    ensures { OnOk result (out.new.items ≡ out.old.items ++ spin_words work.now (lock_of (S.state s.now) l.0)) }
 {
-    put_spin_words(work, lock_of(s, l), out)
+    put_spin_words(work, s.lock(l), out)
 }
 
-pub(crate) fn put_spin(
+pub(crate) fn put_spin<S: Scene>(
     work: &Work,
-    s: &State,
+    s: &S,
     t: ThreadId,
     l: LockId,
     out: &mut Vec<u8>,
 ) -> Result<(), AllocError>
-    ensures { OnOk result (out.new.items ≡ out.old.items ++ spin_sentence work.now s.now t l) }
+    requires good { S.good s.now }
+    ensures { OnOk result (out.new.items ≡ out.old.items ++ spin_sentence work.now (S.state s.now) t l) }
 {
     put_thread(work, t, b" spins for ", out)?;
     put_lock(work, l, b"", out)?;

@@ -5,9 +5,8 @@ ghost use Rattle.sd_types.specs.Works.{same_bytes};
 ghost use Rattle.sd_state.specs.States.{cpu_of};
 ghost use Rattle.sd_story.specs.Selections.{first_named, has_thread, is_named, is_told, second_named, tick_of};
 
+use crate::scene::Scene;
 use arrayvec::ArrayVec;
-use sd_flat::cpu_of;
-use sd_state::State;
 use sd_stretches::thread_name;
 use sd_types::{Entry, Event, Put, ThreadDecl, ThreadId, Work};
 
@@ -108,10 +107,11 @@ fn names(work: &Work, name: &[u8], event: &Event) -> bool
 }
 
 /// The count of its processor before an entry.
-pub(crate) fn tick_of(s: &State, entry: &Entry) -> u32
-    ensures { result ≡ tick_of s.now entry.now }
+pub(crate) fn tick_of<S: Scene>(s: &S, entry: &Entry) -> u32
+    requires good { S.good s.now }
+    ensures { result ≡ tick_of (S.state s.now) entry.now }
 {
-    cpu_of(s, entry.cpu).count
+    s.ticks(entry.cpu)
 }
 
 fn is_between(from: u32, tick: u32, to: u32) -> bool
@@ -121,8 +121,9 @@ fn is_between(from: u32, tick: u32, to: u32) -> bool
 }
 
 /// Whether an entry is told that is made in the state.
-pub(crate) fn is_told(work: &Work, selection: &Selection, s: &State, entry: &Entry) -> bool
-    ensures { result ≡ is_told work.now selection.now s.now entry.now }
+pub(crate) fn is_told<S: Scene>(work: &Work, selection: &Selection, s: &S, entry: &Entry) -> bool
+    requires good { S.good s.now }
+    ensures { result ≡ is_told work.now selection.now (S.state s.now) entry.now }
 {
     match selection {
         Selection::Ticks { from, to } => is_between(*from, tick_of(s, entry), *to),

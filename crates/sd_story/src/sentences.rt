@@ -11,25 +11,26 @@ use crate::requests::{put_age, put_assign, put_bind, put_joined, put_move, put_p
 use crate::running::{
     put_away, put_dispatch, put_idle, put_preempt, put_spin, put_steal, put_tick,
 };
+use crate::scene::Scene;
 use crate::sleeping::{
     put_counted, put_cvwait, put_handed, put_nap, put_napend, put_rouse, put_semap, put_semawait,
     put_sleep, put_wake, put_wakeall,
 };
 use crate::words::put_thread;
-use sd_state::State;
 use sd_types::{CpuId, Event, Work};
 use std::alloc::AllocError;
 
 /// Appends the sentence on an event that processor `c` makes in the state. Where memory runs out, a part of it may have been
 /// appended.
-pub fn put_sentence(
+pub fn put_sentence<S: Scene>(
     work: &Work,
-    s: &State,
+    s: &S,
     c: CpuId,
     event: &Event,
     out: &mut Vec<u8>,
 ) -> Result<(), AllocError>
-    ensures { OnOk result (out.new.items ≡ out.old.items ++ sentence work.now s.now c event.now) }
+    requires good { S.good s.now }
+    ensures { OnOk result (out.new.items ≡ out.old.items ++ sentence work.now (S.state s.now) c event.now) }
 {
     match *event {
         Event::Tick { t } => put_tick(work, s, t, out),

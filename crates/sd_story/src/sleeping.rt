@@ -10,56 +10,61 @@ ghost use Rattle.sd_state.specs.States.{thread_of};
 ghost use Rattle.sd_story.specs.Sleeping.{counted_sentence, cvwait_sentence, handed_sentence, nap_end, nap_sentence, napend_sentence, rouse_sentence, semap_sentence, semawait_sentence, sleep_sentence, wake_sentence, wakeall_sentence};
 ghost use Rattle.sd_story.specs.Words.{chan_then, cpu_then, number_then, runnable_words, thread_then};
 
+use crate::scene::Scene;
 use crate::words::{put_chan, put_count, put_cpu, put_lock, put_runnable, put_thread, put_words};
-use sd_flat::{cpu_of, nap_ticks, script_of};
-use sd_state::State;
+use sd_flat::{nap_ticks, script_of};
 use sd_types::{ChanId, CpuId, LockId, Put, ThreadId, Work};
 use std::alloc::AllocError;
 
 // The number of the operation at which a thread stands.
-fn operation_number(s: &State, t: ThreadId) -> u16
-    ensures { result ≡ (thread_of s.now t.0).body.op }
+fn operation_number<S: Scene>(s: &S, t: ThreadId) -> u16
+    requires good { S.good s.now }
+    ensures { result ≡ (thread_of (S.state s.now) t.0).body.op }
 {
-    match s.threads.items().get(t.0 as usize) {
-        Some(x) => x.body.op,
+    match s.body(t) {
+        Some(body) => body.op,
         None => 0,
     }
 }
 
 // The ticks of the nap at which a thread stands.
-fn own_nap_ticks(work: &Work, s: &State, t: ThreadId) -> u32
-    ensures { result ≡ nap_ticks (op_of work.now t.0 (thread_of s.now t.0).body) }
+fn own_nap_ticks<S: Scene>(work: &Work, s: &S, t: ThreadId) -> u32
+    requires good { S.good s.now }
+    ensures { result ≡ nap_ticks (op_of work.now t.0 (thread_of (S.state s.now) t.0).body) }
 {
     let op = script_of(work, t).get(operation_number(s, t) as usize);
     nap_ticks(op.copied())
 }
 
-fn nap_end(work: &Work, s: &State, c: CpuId, t: ThreadId) -> u64
-    ensures { result ≡ nap_end work.now s.now c t }
+fn nap_end<S: Scene>(work: &Work, s: &S, c: CpuId, t: ThreadId) -> u64
+    requires good { S.good s.now }
+    ensures { result ≡ nap_end work.now (S.state s.now) c t }
 {
-    u64::from(cpu_of(s, c).count) + u64::from(own_nap_ticks(work, s, t))
+    u64::from(s.ticks(c)) + u64::from(own_nap_ticks(work, s, t))
 }
 
-fn put_nap_end(
+fn put_nap_end<S: Scene>(
     work: &Work,
-    s: &State,
+    s: &S,
     c: CpuId,
     t: ThreadId,
     out: &mut Vec<u8>,
 ) -> Result<(), AllocError>
-    ensures { OnOk result (out.new.items ≡ out.old.items ++ number_then (nap_end work.now s.now c t) []) }
+    requires good { S.good s.now }
+    ensures { OnOk result (out.new.items ≡ out.old.items ++ number_then (nap_end work.now (S.state s.now) c t) []) }
 {
     put_count(nap_end(work, s, c, t), b"", out)
 }
 
-pub(crate) fn put_nap(
+pub(crate) fn put_nap<S: Scene>(
     work: &Work,
-    s: &State,
+    s: &S,
     c: CpuId,
     t: ThreadId,
     out: &mut Vec<u8>,
 ) -> Result<(), AllocError>
-    ensures { OnOk result (out.new.items ≡ out.old.items ++ nap_sentence work.now s.now c t) }
+    requires good { S.good s.now }
+    ensures { OnOk result (out.new.items ≡ out.old.items ++ nap_sentence work.now (S.state s.now) c t) }
 {
     put_thread(work, t, b" naps until tick ", out)?;
     put_nap_end(work, s, c, t, out)
@@ -191,35 +196,36 @@ pub(crate) fn put_cvwait(
     put_chan(work, k, b"", out)
 }
 
-// The count of a semaphore.
-fn count_of(s: &State, k: ChanId) -> u32
-    ensures { result ≡ count_of s.now k.0 }
-{
-    s.counts.items().get(k.0 as usize).copied().unwrap_or(0)
-}
-
 // The count of a semaphore, and words behind it.
-fn put_count_of(s: &State, k: ChanId, words: &[u8], out: &mut Vec<u8>) -> Result<(), AllocError>
-    ensures { OnOk result (out.new.items ≡ out.old.items ++ number_then (count_of s.now k.0) words.now) }
+fn put_count_of<S: Scene>(
+    s: &S,
+    k: ChanId,
+    words: &[u8],
+    out: &mut Vec<u8>,
+) -> Result<(), AllocError>
+    requires good { S.good s.now }
+    ensures { OnOk result (out.new.items ≡ out.old.items ++ number_then (count_of (S.state s.now) k.0) words.now) }
 {
-    put_count(u64::from(count_of(s, k)), words, out)
+    put_count(u64::from(s.tokens(k)), words, out)
 }
 
 // One less than its count.
-fn put_one_less(s: &State, k: ChanId, out: &mut Vec<u8>) -> Result<(), AllocError>
-    ensures { OnOk result (out.new.items ≡ out.old.items ++ number_then (count_of s.now k.0 - 1) []) }
+fn put_one_less<S: Scene>(s: &S, k: ChanId, out: &mut Vec<u8>) -> Result<(), AllocError>
+    requires good { S.good s.now }
+    ensures { OnOk result (out.new.items ≡ out.old.items ++ number_then (count_of (S.state s.now) k.0 - 1) []) }
 {
-    put_count(u64::from(count_of(s, k)).saturating_sub(1), b"", out)
+    put_count(u64::from(s.tokens(k)).saturating_sub(1), b"", out)
 }
 
-pub(crate) fn put_semap(
+pub(crate) fn put_semap<S: Scene>(
     work: &Work,
-    s: &State,
+    s: &S,
     t: ThreadId,
     k: ChanId,
     out: &mut Vec<u8>,
 ) -> Result<(), AllocError>
-    ensures { OnOk result (out.new.items ≡ out.old.items ++ semap_sentence work.now s.now t k) }
+    requires good { S.good s.now }
+    ensures { OnOk result (out.new.items ≡ out.old.items ++ semap_sentence work.now (S.state s.now) t k) }
 {
     put_thread(work, t, b" takes one from ", out)?;
     put_chan(work, k, b", whose count falls from ", out)?;

@@ -9,10 +9,10 @@ ghost use Rattle.sd_story.specs.Story.{IsTold, heading, rows_from};
 use crate::rows::put_row_if;
 use crate::selections::Selection;
 use sd_audit::{AuditFault, Collector, audit_collecting};
+use sd_homes_replay::step;
 use sd_opening::opening;
-use sd_replay::step;
-use sd_state::State;
 use sd_types::{Entry, Work};
+use sd_world::PlainWorld;
 use std::alloc::{AllocError, Global};
 
 /// The first line of a story.
@@ -33,11 +33,11 @@ impl Collector for Teller<'_> {
         &mut self,
         alloc: Global,
         work: &Work,
-        s: &mut State,
+        world: &mut PlainWorld<'_>,
         entry: &Entry,
     ) -> Result<bool, AllocError> {
-        put_row_if(alloc, work, self.selection, s, entry, &mut self.told)?;
-        Ok(step(work, s, entry))
+        put_row_if(alloc, work, self.selection, world, entry, &mut self.told)?;
+        step(work, world, entry)
     }
 }
 

@@ -1,8 +1,8 @@
 -- One entry more.
-use Rattle.std.proofs.Common.{◌≡◌, ℕ, zero, suc, ◌+◌, ◌<◌, ◌≤◌, List, [], ◌∷◌, ◌++◌, length, Some, None, refl, sym, ap, ◌∙◌, arith, add-one}
+use Rattle.std.proofs.Common.{◌≡◌, ℕ, zero, suc, ◌+◌, ◌<◌, ◌≤◌, List, [], ◌∷◌, ◌++◌, length, Some, None, refl, sym, ap, subst, ◌∙◌, arith, add-one}
 use Rattle.std.specs.Prelude.{slice_get}
 use Rattle.std.specs.List.{flat_map, range_with_len}
-use Rattle.std.proofs.lemmas.List.{take-append-le, take_all, length-append, append-nil, get_or_append_left}
+use Rattle.std.proofs.lemmas.List.{take-append-le, take_all, length-append, length-map, append-nil, get_or_append_left}
 use Rattle.std.proofs.lemmas.Option.{slice_get-get_or}
 use Rattle.std.proofs.Math.Seq.{get_or-append_seam}
 use Rattle.sd_basics.proofs.Ranges.{flat_range_more, flat_range_same}
@@ -11,10 +11,17 @@ use Rattle.sd_types.specs.declared.works.Work.{Work}
 use Rattle.sd_state.specs.declared.states.State.{State}
 use Rattle.sd_state.specs.Opening.{opening}
 use Rattle.sd_machine.specs.Runs.{final, state_at}
+use Rattle.sd_machine.proofs.OpeningLemmas.{opening_fits}
+use Rattle.sd_machine.proofs.RunLemmas.{final_fits, final-push}
+use Rattle.sd_frames.specs.Altered.{altered}
+use Rattle.sd_stretches.specs.declared.sights.Sight.{Sight}
 use Rattle.sd_state.specs.States.{cpu_of}
 use Rattle.sd_stretches.specs.declared.histories.History.{History}
-use Rattle.sd_stretches.specs.Sights.{sights_of}
+use Rattle.sd_machine.specs.Events.{after}
+use Rattle.sd_stretches.specs.Sights.{runnable, sight_of, sights_of}
 use Rattle.sd_stretches.specs.Changes.{onsets_between, ranks_between, load_if, hand_overs_of, happenings_of, wakeups_of}
+use Rattle.sd_stretches.specs.Altered.{AlikeBut, last_count, loads_by, onsets_by, ranks_by, sights_by}
+use Rattle.sd_stretches.proofs.AlteredLemmas.{alter_one, last_over, loads_one, onsets_one, ranks_one, sights_one}
 use Rattle.sd_stretches.specs.Histories.{Moment, moment, over, onsets_in, ranks_in, loads_in, hand_overs_in, wakeups_in, happenings_in, IsHistory}
 
 module _ (w : Work) (es : List Entry) (e : Entry) where
@@ -120,3 +127,38 @@ history_more w es e s old new state h onsets ranks loads hand_overs wakeups happ
       sights = sights ∙ ap sights_of state;
       entries = entries ∙ ap (λ m. m + 1) n ∙ sym (length-append es (e ∷ []));
     }
+
+few_sights : (w : Work) (es : List Entry) → length (sights_of (final w (opening w) es)) ≤ 18446744073709551615
+unfolding sights_of
+few_sights w es =
+    let many = length-map (final w (opening w) es).threads sight_of in
+    let fits = (final_fits w (opening w) es (opening_fits w)).threads in
+    let few = w.most_threads in
+    omega (arith, many, fits, few)
+
+-- the same from the sights of the one thread that the entry may have altered
+pub history_by : (w : Work) (es : List Entry) (e : Entry) (s : State) (old new : History) → s ≡ final w (opening w) (es ++ e ∷ []) → IsHistory w es old
+    → new.onsets.items ≡ old.onsets.items ++ onsets_by (altered e.event) (old.entries + 1) (cpu_of s e.cpu.0).count old.sights.items (sights_of s)
+    → new.ranks.items ≡ old.ranks.items ++ ranks_by (altered e.event) (old.entries + 1) (cpu_of s e.cpu.0).count old.sights.items (sights_of s)
+    → new.loads.items ≡ old.loads.items ++ loads_by (last_count old.loads.items) (altered e.event) (old.entries + 1) (cpu_of s e.cpu.0).count old.sights.items (sights_of s)
+    → new.hand_overs.items ≡ old.hand_overs.items ++ hand_overs_of s (Some e)
+    → new.wakeups.items ≡ old.wakeups.items ++ wakeups_of s (Some e)
+    → new.happenings.items ≡ old.happenings.items ++ happenings_of s (Some e)
+    → new.sights.items ≡ sights_by (altered e.event) old.sights.items (sights_of s) → new.entries ≡ old.entries + 1
+    → IsHistory w (es ++ e ∷ []) new
+history_by w es e s old new state h onsets ranks loads hand_overs wakeups happenings sights entries =
+    let o = altered e.event in
+    let first = old.entries + 1 in
+    let tick = (cpu_of s e.cpu.0).count in
+    let before : List Sight = old.sights.items in
+    let step : s ≡ after w (final w (opening w) es) e.number e.cpu e.event = state ∙ final-push w (opening w) es e in
+    let alike : AlikeBut o before (sights_of s) =
+    subst (λ xs. AlikeBut o xs (sights_of s)) (sym h.sights)
+    (subst (λ r. AlikeBut o (sights_of (final w (opening w) es)) (sights_of r)) (sym step) (alter_one w (final w (opening w) es) e.number e.cpu e.event)) in
+    let count : last_count old.loads.items ≡ runnable before = ap last_count h.loads ∙ last_over w es ∙ sym (ap runnable h.sights) in
+    let few : length (sights_of s) ≤ 18446744073709551615 = subst (λ r. length (sights_of r) ≤ 18446744073709551615) (sym state) (few_sights w (es ++ e ∷ [])) in
+    history_more w es e s old new state h
+    (onsets ∙ ap (λ ys. old.onsets.items ++ ys) (onsets_one o first tick before (sights_of s) alike))
+    (ranks ∙ ap (λ ys. old.ranks.items ++ ys) (ranks_one o first tick before (sights_of s) alike))
+    (loads ∙ ap (λ ys. old.loads.items ++ ys) (ap (λ m. loads_by m o first tick before (sights_of s)) count ∙ loads_one o first tick before (sights_of s) alike few))
+    hand_overs wakeups happenings (sights ∙ sights_one o before (sights_of s) alike) entries

@@ -1,6 +1,8 @@
+pub mod AlteredLemmas
 pub mod ExactLemmas
 pub mod HistoryLemmas
 pub mod OrderLemmas
+pub mod PartLemmas
 pub mod PlainLemmas
 pub mod RangeLemmas
 pub mod RowLemmas

@@ -1,8 +1,10 @@
+pub mod Altered
 pub mod Changes
 pub mod Doings
 pub mod Exact
 pub mod Histories
 pub mod Order
+pub mod Parted
 pub mod Plain
 pub mod Rows
 pub mod Sights

@@ -4,9 +4,11 @@
 
 ghost use Rattle.std.specs.Prelude.{◌≡◌, ◌++◌, OnOk, slice_get, None, Some};
 ghost use Rattle.sd_state.specs.States.{cpu_of};
+ghost use Rattle.sd_frames.specs.Altered.{altered};
+ghost use Rattle.sd_stretches.specs.Altered.{last_count, load_by_sight, one_moved, with_sight};
 ghost use Rattle.sd_stretches.specs.Changes.{giver, giver_of, hand_over_of, hand_overs_of, happening_of, happenings_of, is_above_base, is_giver, is_inherited, is_priority, is_that_thread, load_if, owner_of, rank_if, ranks_between, onset_if, onsets_between, wakeup_of, wakeups_of, wanted_lock, woken_by, waker_of};
 
-use crate::sights::{Doing, Sight, runnable, same_doing, same_rank};
+use crate::sights::{Doing, Sight, is_runnable, runnable, same_doing, same_rank};
 use sd_flat::{greatest_waiting, index_of_runner};
 use sd_state::{LockState, Place, State, ThreadState};
 use sd_types::{Class, CpuId, Entry, Event, LockId, ThreadId};
@@ -78,7 +80,7 @@ pub struct Happening {
     pub owner: Option<ThreadId>,
 }
 
-fn sight_at(sights: &[Sight], t: usize) -> Option<Sight>
+pub(crate) fn sight_at(sights: &[Sight], t: usize) -> Option<Sight>
     ensures { result ≡ slice_get sights.now t }
 {
     match sights.get(t) {
@@ -87,7 +89,8 @@ fn sight_at(sights: &[Sight], t: usize) -> Option<Sight>
     }
 }
 
-fn push_onset(
+/// Appends what a thread does from a state on, where it did not do it in the state before.
+pub(crate) fn push_onset(
     t: usize,
     first: u64,
     tick: u32,
@@ -133,7 +136,8 @@ pub(crate) fn push_onsets(
     Ok(())
 }
 
-fn push_rank(
+/// Appends the priority that a thread has from a state on, where it did not have it in the state before.
+pub(crate) fn push_rank(
     t: usize,
     first: u64,
     tick: u32,
@@ -197,6 +201,116 @@ pub(crate) fn push_load(
         })?;
     }
     Ok(())
+}
+
+// How many threads stand on dispatch queues since the last of these.
+fn last_count(loads: &[Load]) -> usize
+    ensures { result ≡ last_count loads.now }
+{
+    match loads.last() {
+        Some(load) => load.runnable,
+        None => 0,
+    }
+}
+
+// That number after a thread came to a queue, or left one.
+fn one_moved(comes: bool, runnable: usize) -> usize
+    ensures { result ≡ one_moved comes runnable }
+{
+    if comes {
+        runnable.saturating_add(1)
+    } else {
+        runnable.saturating_sub(1)
+    }
+}
+
+/// Appends how many threads stand on dispatch queues from a state on, where one thread came to a queue or left one.
+pub(crate) fn push_load_by(
+    first: u64,
+    tick: u32,
+    old: Option<Sight>,
+    new: Option<Sight>,
+    out: &mut Vec<Load>,
+) -> Result<(), AllocError>
+    ensures { OnOk result (out.new.items ≡ out.old.items ++ load_by_sight (last_count out.old.items) first tick old new) }
+{
+    let Some(y) = old else {
+        return Ok(());
+    };
+    let Some(x) = new else {
+        return Ok(());
+    };
+    let comes = is_runnable(&x);
+    if is_runnable(&y) == comes {
+        return Ok(());
+    }
+    let runnable = one_moved(comes, last_count(out));
+    out.push(Load {
+        first,
+        tick,
+        runnable,
+    })?;
+    Ok(())
+}
+
+/// Writes what is seen of a thread now, if there is one of this number.
+pub(crate) fn set_sight(sights: &mut [Sight], t: usize, new: Option<Sight>)
+    ensures { sights.new ≡ with_sight sights.old t new }
+{
+    if let Some(x) = new {
+        if t < sights.len() {
+            sights[t] = x;
+        }
+    }
+}
+
+fn index_of(t: ThreadId) -> Option<usize>
+    ensures { result ≡ Some t.0 }
+{
+    Some(t.0 as usize)
+}
+
+/// The thread that an event may alter: its place, its class state or the priorities that it inherits.
+pub(crate) fn altered(event: &Event) -> Option<usize>
+    ensures { result ≡ altered event.now }
+{
+    match *event {
+        Event::Idle
+        | Event::Wakeall { .. }
+        | Event::Enter { .. }
+        | Event::Read { .. }
+        | Event::Write { .. }
+        | Event::End { .. }
+        | Event::Passed { .. }
+        | Event::SemaP { .. }
+        | Event::SemaVCount { .. }
+        | Event::Assign { .. }
+        | Event::Joined { .. } => None,
+        Event::Tick { t }
+        | Event::Spin { t, .. }
+        | Event::Dispatch { t, .. }
+        | Event::Steal { t, .. }
+        | Event::Preempt { t, .. }
+        | Event::Away { t, .. }
+        | Event::Yield { t }
+        | Event::Done { t }
+        | Event::Nap { t }
+        | Event::Napend { t, .. }
+        | Event::Sleep { t, .. }
+        | Event::Block { t, .. }
+        | Event::Exit { t, .. }
+        | Event::Age { t, .. }
+        | Event::CvWait { t, .. }
+        | Event::SemaWait { t, .. }
+        | Event::Move { t, .. } => index_of(t),
+        Event::Will { o, .. } => index_of(o),
+        Event::Unblock { u, .. }
+        | Event::Grant { u, .. }
+        | Event::Prio { u, .. }
+        | Event::SemaVWake { u, .. }
+        | Event::Bind { u, .. } => index_of(u),
+        Event::Wake { woken, .. } | Event::Rouse { woken, .. } => index_of(woken?.0),
+    }
 }
 
 // Waits for the lock with this priority.

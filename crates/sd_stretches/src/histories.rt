@@ -5,15 +5,17 @@ ghost use Rattle.sd_types.specs.declared.events.Entry.{Entry as EntryValue};
 ghost use Rattle.sd_types.specs.declared.works.Work.{Work as WorkValue};
 ghost use Rattle.sd_state.specs.Opening.{opening};
 ghost use Rattle.sd_machine.specs.Runs.{final};
+ghost use Rattle.sd_stretches.specs.Altered.{last_count, loads_by, onsets_by, ranks_by, sights_by};
 ghost use Rattle.sd_stretches.specs.Changes.{load_if, ranks_between, onsets_between};
 ghost use Rattle.sd_stretches.specs.Histories.{IsHistory};
 ghost use Rattle.sd_stretches.specs.Sights.{sights_of};
 
 use crate::changes::{
-    HandOver, Happening, Load, Onset, Rank, Wakeup, count_of, push_hand_over, push_happening,
-    push_load, push_onsets, push_ranks, push_wakeup,
+    HandOver, Happening, Load, Onset, Rank, Wakeup, altered, count_of, push_hand_over,
+    push_happening, push_load, push_load_by, push_onset, push_onsets, push_rank, push_ranks,
+    push_wakeup, set_sight, sight_at,
 };
-use crate::sights::{Sight, sights_of};
+use crate::sights::{Sight, sight_in, sights_of};
 use sd_state::State;
 use sd_types::{Entry, Work};
 use std::alloc::{AllocError, Global};
@@ -57,23 +59,51 @@ impl History {
         }
     }
 
-    // Takes in what is seen in the next state.
-    fn see(&mut self, alloc: Global, s: &State, first: u64, tick: u32) -> Result<(), AllocError>
-        ensures onsets { OnOk result (self.new.onsets.items ≡ self.old.onsets.items ++ onsets_between self.old.sights.items (sights_of s.now) first tick) }
-        ensures ranks { OnOk result (self.new.ranks.items ≡ self.old.ranks.items ++ ranks_between self.old.sights.items (sights_of s.now) first tick) }
-        ensures loads { OnOk result (self.new.loads.items ≡ self.old.loads.items ++ load_if self.old.sights.items (sights_of s.now) first tick) }
+    // Takes in what is seen in the initial state.
+    fn see_all(&mut self, alloc: Global, s: &State) -> Result<(), AllocError>
+        ensures onsets { OnOk result (self.new.onsets.items ≡ self.old.onsets.items ++ onsets_between self.old.sights.items (sights_of s.now) 0 0) }
+        ensures ranks { OnOk result (self.new.ranks.items ≡ self.old.ranks.items ++ ranks_between self.old.sights.items (sights_of s.now) 0 0) }
+        ensures loads { OnOk result (self.new.loads.items ≡ self.old.loads.items ++ load_if self.old.sights.items (sights_of s.now) 0 0) }
         ensures sights { OnOk result (self.new.sights.items ≡ sights_of s.now) }
-        ensures entries { OnOk result (self.new.entries ≡ first) }
+        ensures entries { self.new.entries ≡ self.old.entries }
         ensures hand_overs { self.new.hand_overs ≡ self.old.hand_overs }
         ensures wakeups { self.new.wakeups ≡ self.old.wakeups }
         ensures happenings { self.new.happenings ≡ self.old.happenings }
     {
         let sights = sights_of(alloc, s)?;
-        push_onsets(&self.sights, &sights, first, tick, &mut self.onsets)?;
-        push_ranks(&self.sights, &sights, first, tick, &mut self.ranks)?;
-        push_load(&self.sights, &sights, first, tick, &mut self.loads)?;
+        push_onsets(&self.sights, &sights, 0, 0, &mut self.onsets)?;
+        push_ranks(&self.sights, &sights, 0, 0, &mut self.ranks)?;
+        push_load(&self.sights, &sights, 0, 0, &mut self.loads)?;
         self.sights = sights;
-        self.entries = first;
+        Ok(())
+    }
+
+    // Takes in what is seen in the next state of the one thread that may be seen otherwise.
+    fn see(
+        &mut self,
+        altered: Option<usize>,
+        s: &State,
+        first: u64,
+        tick: u32,
+    ) -> Result<(), AllocError>
+        ensures onsets { OnOk result (self.new.onsets.items ≡ self.old.onsets.items ++ onsets_by altered first tick self.old.sights.items (sights_of s.now)) }
+        ensures ranks { OnOk result (self.new.ranks.items ≡ self.old.ranks.items ++ ranks_by altered first tick self.old.sights.items (sights_of s.now)) }
+        ensures loads { OnOk result (self.new.loads.items ≡ self.old.loads.items ++ loads_by (last_count self.old.loads.items) altered first tick self.old.sights.items (sights_of s.now)) }
+        ensures sights { OnOk result (self.new.sights.items ≡ sights_by altered self.old.sights.items (sights_of s.now)) }
+        ensures entries { self.new.entries ≡ self.old.entries }
+        ensures hand_overs { self.new.hand_overs ≡ self.old.hand_overs }
+        ensures wakeups { self.new.wakeups ≡ self.old.wakeups }
+        ensures happenings { self.new.happenings ≡ self.old.happenings }
+    {
+        let Some(t) = altered else {
+            return Ok(());
+        };
+        let old = sight_at(&self.sights, t);
+        let new = sight_in(s, t);
+        push_onset(t, first, tick, old, new, &mut self.onsets)?;
+        push_rank(t, first, tick, old, new, &mut self.ranks)?;
+        push_load_by(first, tick, old, new, &mut self.loads)?;
+        set_sight(&mut self.sights, t, new);
         Ok(())
     }
 
@@ -82,18 +112,20 @@ impl History {
         ensures { IfOk result (λ h. (w : WorkValue) → s.now ≡ opening w → IsHistory w [] h) }
     {
         let mut history = History::empty(alloc);
-        history.see(alloc, s, 0, 0)?;
+        history.see_all(alloc, s)?;
         Ok(history)
     }
 
     /// Takes in the next entry, which made this state. Where memory runs out nothing is said of what is there.
-    pub fn add(&mut self, alloc: Global, s: &State, entry: &Entry) -> Result<(), AllocError>
+    pub fn add(&mut self, s: &State, entry: &Entry) -> Result<(), AllocError>
         requires { self.old.entries < 2 ^ 62 }
         ensures { OnOk result ((w : WorkValue) (es : Items EntryValue)
             → s.now ≡ final w (opening w) (es ++ entry.now ∷ []) → IsHistory w es self.old → IsHistory w (es ++ entry.now ∷ []) self.new) }
     {
         let first = self.entries + 1;
-        self.see(alloc, s, first, count_of(s, entry.cpu))?;
+        let tick = count_of(s, entry.cpu);
+        self.see(altered(&entry.event), s, first, tick)?;
+        self.entries = first;
         push_hand_over(s, entry, &mut self.hand_overs)?;
         push_wakeup(s, entry, &mut self.wakeups)?;
         push_happening(s, entry, &mut self.happenings)?;

@@ -1,5 +1,6 @@
 //! What the stretches say of the states of a run: laws, with nothing to run.
 
+ghost use Rattle.sd_stretches.specs.Altered.{EventsAlterOneSight};
 ghost use Rattle.sd_stretches.specs.Exact.{SlicesAreExact, StretchesAreExact};
 ghost use Rattle.sd_stretches.specs.Order.{StretchesStandInOrder};
 ghost use Rattle.sd_stretches.specs.SpinPieces.{PiecesFillStretches};
@@ -26,4 +27,10 @@ pub fn stretches_stand_in_order()
 /// tick at which the one before it ends, and the last ends with it.
 pub fn pieces_fill_stretches()
     ensures { PiecesFillStretches }
+{}
+
+/// An event changes what is seen of one thread at most, the one that it names: every other does the same after it, in the same class,
+/// with the same effective priority, inherited or not. This is so in every state, whether or not a run reaches it.
+pub fn events_alter_one_sight()
+    ensures { EventsAlterOneSight }
 {}

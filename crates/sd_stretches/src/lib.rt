@@ -3,6 +3,7 @@
 //! takes in one entry at a time.
 #![tactic(auto)]
 
+mod by_thread;
 mod changes;
 mod doings;
 mod histories;
@@ -13,12 +14,14 @@ mod rows;
 mod sights;
 mod spin_pieces;
 
+pub use by_thread::ByThread;
 pub use changes::{HandOver, Happening, Load, Onset, Rank, Wakeup, is_that_thread, woken_by};
 pub use doings::{put_counted, put_doing};
 pub use histories::History;
 pub use label_laws::names_need_no_escaping;
 pub use laws::{
-    pieces_fill_stretches, slices_are_exact, stretches_are_exact, stretches_stand_in_order,
+    events_alter_one_sight, pieces_fill_stretches, slices_are_exact, stretches_are_exact,
+    stretches_stand_in_order,
 };
 pub use names::{chan_name, lock_name, set_name, short_name, thread_name};
 pub use rows::{Level, Stretch, levels, stretches};

@@ -2,8 +2,9 @@
 
 ghost use Rattle.std.specs.Prelude.{◌≡◌, ◌++◌, ◌==◌, ◌∷◌, [], IfOk, OnOk, filter, if◌then◌else◌};
 ghost use Rattle.sd_stretches.specs.Sights.{runs_on};
-ghost use Rattle.sd_stretches.specs.Rows.{level_to, levels, next_of, own_ranks, own_onsets, slices, stretch_to, stretches};
+ghost use Rattle.sd_stretches.specs.Rows.{level_to, levels, next_of, own_ranks, own_onsets, slices, stretch_to, stretches, stretches_of};
 
+use crate::by_thread::ByThread;
 use crate::changes::{Onset, Rank};
 use crate::sights::{Doing, runs_on};
 use sd_types::Class;
@@ -36,7 +37,11 @@ fn push_own(x: Onset, t: usize, own: &mut Vec<Onset>) -> Result<(), AllocError>
 }
 
 // Those of one thread.
-fn own_onsets(alloc: Global, onsets: &[Onset], t: usize) -> Result<Vec<Onset>, AllocError>
+pub(crate) fn own_onsets(
+    alloc: Global,
+    onsets: &[Onset],
+    t: usize,
+) -> Result<Vec<Onset>, AllocError>
     ensures { IfOk result (λ v. v.items ≡ own_onsets t onsets.now) }
 {
     let mut own = Vec::new(alloc);
@@ -71,25 +76,37 @@ fn stretch_to(entries: u64, end: u32, x: Onset, next: Option<Onset>) -> Stretch
     }
 }
 
-/// The stretches of a thread in order, from the onsets of a run of so many entries, which ended at this tick.
-#[tactic(auto, unfolding(crate::specs::Rows::stretches))]
-pub fn stretches(
+// The stretches that the onsets of a thread begin.
+#[tactic(auto, unfolding(crate::specs::Rows::stretches_of))]
+fn stretches_of(
     alloc: Global,
-    onsets: &[Onset],
-    t: usize,
+    own: &[Onset],
     entries: u64,
     end: u32,
 ) -> Result<Vec<Stretch>, AllocError>
-    ensures { IfOk result (λ v. v.items ≡ stretches t onsets.now entries end) }
+    ensures { IfOk result (λ v. v.items ≡ stretches_of entries end own.now) }
 {
-    let own = own_onsets(alloc, onsets, t)?;
     let mut found = Vec::new(alloc);
-    let mut left: &[Onset] = &own;
+    let mut left = own;
     while let Some((x, rest)) = left.split_first() {
         found.push(stretch_to(entries, end, *x, first_onset(rest)))?;
         left = rest;
     }
     Ok(found)
+}
+
+/// The stretches of a thread in order, from the history of a run that ended at this tick.
+#[tactic(auto, unfolding(crate::specs::Rows::stretches))]
+pub fn stretches(
+    alloc: Global,
+    history: &ByThread,
+    t: usize,
+    end: u32,
+) -> Result<Vec<Stretch>, AllocError>
+    ensures { IfOk result (λ v. v.items ≡ stretches t history.now.onsets.items history.now.entries end) }
+{
+    let own = history.onsets_of(alloc, t)?;
+    stretches_of(alloc, &own, history.history.entries, end)
 }
 
 // The first onset of the thread.
@@ -165,7 +182,7 @@ fn push_own_rank(x: Rank, t: usize, own: &mut Vec<Rank>) -> Result<(), AllocErro
 }
 
 // Those of one thread.
-fn own_ranks(alloc: Global, ranks: &[Rank], t: usize) -> Result<Vec<Rank>, AllocError>
+pub(crate) fn own_ranks(alloc: Global, ranks: &[Rank], t: usize) -> Result<Vec<Rank>, AllocError>
     ensures { IfOk result (λ v. v.items ≡ own_ranks t ranks.now) }
 {
     let mut own = Vec::new(alloc);
@@ -196,12 +213,17 @@ fn level_to(end: u32, x: Rank, next: Option<Rank>) -> Level
     }
 }
 
-/// The levels of a thread's priority in order, from the ranks of a run that ended at this tick.
+/// The levels of a thread's priority in order, from the history of a run that ended at this tick.
 #[tactic(auto, unfolding(crate::specs::Rows::levels))]
-pub fn levels(alloc: Global, ranks: &[Rank], t: usize, end: u32) -> Result<Vec<Level>, AllocError>
-    ensures { IfOk result (λ v. v.items ≡ levels t ranks.now end) }
+pub fn levels(
+    alloc: Global,
+    history: &ByThread,
+    t: usize,
+    end: u32,
+) -> Result<Vec<Level>, AllocError>
+    ensures { IfOk result (λ v. v.items ≡ levels t history.now.ranks.items end) }
 {
-    let own = own_ranks(alloc, ranks, t)?;
+    let own = history.ranks_of(alloc, t)?;
     let mut found = Vec::new(alloc);
     let mut left: &[Rank] = &own;
     while let Some((x, rest)) = left.split_first() {

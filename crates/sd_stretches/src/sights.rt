@@ -2,7 +2,7 @@
 //!
 //! Source: Solaris Internals (thread states, global priorities, priority inheritance).
 
-ghost use Rattle.std.specs.Prelude.{◌≡◌, ◌==◌, map, IfOk};
+ghost use Rattle.std.specs.Prelude.{◌≡◌, ◌==◌, map, IfOk, slice_get};
 ghost use Rattle.sd_types.specs.Priorities.{base_of, eff};
 ghost use Rattle.sd_stretches.specs.Sights.{class_of, doing_of, runs_on, does_run, same_doing, same_rank, sight_of, sights_of, runnable, is_runnable};
 
@@ -71,6 +71,17 @@ fn sight_of(x: &ThreadState) -> Sight
     }
 }
 
+/// What is seen of a thread of the state, if it has one of this number.
+#[tactic(auto, unfolding(crate::specs::Sights::sights_of))]
+pub(crate) fn sight_in(s: &State, t: usize) -> Option<Sight>
+    ensures { result ≡ slice_get (sights_of s.now) t }
+{
+    match s.threads.items().get(t) {
+        Some(x) => Some(sight_of(x)),
+        None => None,
+    }
+}
+
 /// What is seen of each thread of the state.
 #[tactic(auto, unfolding(crate::specs::Sights::sights_of))]
 pub(crate) fn sights_of(alloc: Global, s: &State) -> Result<Vec<Sight>, AllocError>
@@ -121,7 +132,8 @@ pub(crate) fn same_rank(x: &Sight, y: &Sight) -> bool
     x.priority == y.priority && x.inherited == y.inherited
 }
 
-fn is_runnable(x: &Sight) -> bool
+/// Whether it stands on a dispatch queue.
+pub(crate) fn is_runnable(x: &Sight) -> bool
     ensures { result ≡ is_runnable x.now }
 {
     match x.doing {

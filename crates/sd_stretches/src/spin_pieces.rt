@@ -2,11 +2,11 @@
 //!
 //! Source: Solaris Internals (adaptive mutexes).
 
-ghost use Rattle.std.specs.Prelude.{◌≡◌, ◌++◌, ◌≤◌, IfOk, OnOk, length};
+ghost use Rattle.std.specs.Prelude.{◌≡◌, ◌++◌, ◌-◌, ◌≤◌, IfOk, OnOk, length};
 ghost use Rattle.sd_stretches.specs.SpinPieces.{before, cut, cut_all, extended, goes_on, is_on, piece_start, pieces, pieces_of, spell_by, spells_of, spells_on, spells_within, spun, rest_after, track_stretches};
 
+use crate::by_thread::ByThread;
 use crate::changes::Happening;
-use crate::histories::History;
 use crate::rows::{Stretch, slices, stretches};
 use crate::sights::Doing;
 use sd_types::{CpuId, Event, LockId, ThreadId};
@@ -39,19 +39,26 @@ fn is_on(track: Track, cpu: CpuId, t: ThreadId) -> bool
     }
 }
 
+/// The tick that an entry of a processor, or of a thread, spends spinning for the lock.
+pub(crate) fn spell_at(l: LockId, x: &Happening) -> Spell
+    ensures { result ≡ record { lock = l; first = x.now.entry; last = x.now.entry; from = x.now.tick - 1; to = x.now.tick } }
+{
+    Spell {
+        lock: l,
+        first: x.entry,
+        last: x.entry,
+        from: x.tick.saturating_sub(1),
+        to: x.tick,
+    }
+}
+
 // The tick that an entry spends spinning, where it does and is of the track.
 fn push_spell(track: Track, x: &Happening, out: &mut Vec<Spell>) -> Result<(), AllocError>
     ensures { OnOk result (out.new.items ≡ out.old.items ++ spell_by track x.now x.now.event) }
 {
     if let Event::Spin { t, l } = x.event {
         if is_on(track, x.cpu, t) {
-            out.push(Spell {
-                lock: l,
-                first: x.entry,
-                last: x.entry,
-                from: x.tick.saturating_sub(1),
-                to: x.tick,
-            })?;
+            out.push(spell_at(l, x))?;
         }
     }
     Ok(())
@@ -59,7 +66,7 @@ fn push_spell(track: Track, x: &Happening, out: &mut Vec<Spell>) -> Result<(), A
 
 // The ticks of a track that are spent spinning, one by one.
 #[tactic(auto, unfolding(crate::specs::SpinPieces::spells_on))]
-fn spells_on(
+pub(crate) fn spells_on(
     alloc: Global,
     track: Track,
     happenings: &[Happening],
@@ -232,14 +239,29 @@ fn cut_all(alloc: Global, own: &[Stretch], spells: &[Spell]) -> Result<Vec<Stret
 fn track_stretches(
     alloc: Global,
     track: Track,
-    history: &History,
+    history: &ByThread,
     end: u32,
 ) -> Result<Vec<Stretch>, AllocError>
     ensures { IfOk result (λ v. v.items ≡ track_stretches track history.now end) }
 {
     match track {
-        Track::Cpu(c) => slices(alloc, &history.onsets, c, history.entries, end),
-        Track::Thread(t) => stretches(alloc, &history.onsets, t, history.entries, end),
+        Track::Cpu(c) => slices(
+            alloc,
+            &history.history.onsets,
+            c,
+            history.history.entries,
+            end,
+        ),
+        Track::Thread(t) => stretches(alloc, history, t, end),
+    }
+}
+
+fn track_spells(alloc: Global, track: Track, history: &ByThread) -> Result<Vec<Spell>, AllocError>
+    ensures { IfOk result (λ v. v.items ≡ spells_on track history.now.happenings.items) }
+{
+    match track {
+        Track::Cpu(_) => spells_on(alloc, track, &history.history.happenings),
+        Track::Thread(t) => history.spells_of(alloc, t),
     }
 }
 
@@ -249,12 +271,12 @@ fn track_stretches(
 pub fn pieces(
     alloc: Global,
     track: Track,
-    history: &History,
+    history: &ByThread,
     end: u32,
 ) -> Result<Vec<Stretch>, AllocError>
     ensures { IfOk result (λ v. v.items ≡ pieces track history.now end) }
 {
     let whole = track_stretches(alloc, track, history, end)?;
-    let spells = spells_on(alloc, track, &history.happenings)?;
+    let spells = track_spells(alloc, track, history)?;
     cut_all(alloc, &whole, &spells)
 }

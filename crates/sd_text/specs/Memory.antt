@@ -1,5 +1,5 @@
 -- Sources and sinks in memory (this project's own): what they hold, and what a call does to it.
-use Rattle.std.specs.Prelude.{◌≡◌, ℕ, ◌-◌, ◌⊎◌, List, ◌++◌, length, take, drop, min, MatchResult, Result, Contains}
+use Rattle.std.specs.Prelude.{◌≡◌, ℕ, ◌-◌, ◌⊎◌, Bool, true, false, List, [], ◌++◌, length, take, drop, min, MatchResult, Result, Contains}
 use Rattle.sd_text.specs.declared.streams.Failed.{Failed}
 use Rattle.sd_text.specs.Faults.{next_count}
 
@@ -36,11 +36,16 @@ pub record SinkState : Type 0 where
   pub held : List ℕ
   -- how many bytes it holds at most
   pub room : ℕ
-  -- the numbers, from 1, of the writes that fail
+  -- the numbers, from 1, of the writes that fail, and whether each flush fails
   pub failing : List ℕ
-  -- how many writes there were, and how many failed
+  pub fails_to_flush : Bool
+  -- how many writes there were, and how many calls failed
   pub writes : ℕ
   pub faults : ℕ
+
+-- it hands everything on at once
+abbrev pub kept_back : SinkState → List ℕ
+kept_back s = []
 
 -- the sink after one more write
 abbrev pub after_write : SinkState → SinkState
@@ -56,3 +61,8 @@ TakesPiece old new result piece = MatchResult result
     (λ n. (¬ IsRefusing old) × (n ≡ min (old.room - length old.held) (length piece))
     × (new ≡ record (after_write old) { held = old.held ++ take n piece }))
     (λ _. IsRefusing old × (new ≡ record (after_write old) { faults = next_count old.faults }))
+
+-- A flush fails where the sink is told so, and changes nothing but the count of faults.
+abbrev pub Flushes : SinkState → SinkState → Result (Unit {0}) Failed → Type 0
+Flushes old new result = MatchResult result (λ _. (old.fails_to_flush ≡ false) × (new ≡ old))
+    (λ _. (old.fails_to_flush ≡ true) × (new ≡ record old { faults = next_count old.faults }))

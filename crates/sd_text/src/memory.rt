@@ -1,6 +1,6 @@
 //! Sources and sinks in memory, which fail at the calls that they are told to.
-ghost use Rattle.std.specs.Prelude.{◌≡◌, ◌<◌, ◌≤◌, [], ◌++◌, IfOk, OnOk, OnErr, length, min, take, drop};
-ghost use Rattle.std.specs.Io.KnownBytes.{ReadConsumes, WriteAppends};
+ghost use Rattle.std.specs.Prelude.{◌≡◌, ◌<◌, ◌≤◌, [], ◌++◌, true, false, IfOk, OnOk, OnErr, length, min, take, drop};
+ghost use Rattle.std.specs.Io.KnownBytes.{Keeps, ReadConsumes, WriteAppends};
 ghost use Rattle.sd_text.specs.Faults.{HasRisen};
 ghost use Rattle.sd_text.specs.Lines.{IsOneLine};
 
@@ -92,12 +92,13 @@ fn copy_front(left: &[u8], buf: &mut [u8], chunk: usize) -> usize
     count
 }
 
-/// A sink with room in memory. A write takes as much as there is room for.
+/// A sink with room in memory. A write takes as much as there is room for, and nothing is held back.
 #[derive(Drop)]
 pub struct MemorySink {
     bytes: Vec<u8>,
     room: usize,
     failing: Vec<u64>,
+    fails_to_flush: bool,
     writes: u64,
     faults: u64,
 }
@@ -108,7 +109,7 @@ impl Model for MemorySink {
 
     ghost Value = { SinkState };
 
-    ghost view = { λ s. record { held = s.bytes.items; room = s.room; failing = s.failing.items; writes = s.writes; faults = s.faults } };
+    ghost view = { λ s. record { held = s.bytes.items; room = s.room; failing = s.failing.items; fails_to_flush = s.fails_to_flush; writes = s.writes; faults = s.faults } };
 
     ghost invariant = { λ s. (vec_len s.bytes ≤ s.room) × (s.room ≤ vec_capacity s.bytes) };
 }
@@ -117,16 +118,25 @@ impl MemorySink {
     /// An empty sink with room for `room` bytes. The writes whose numbers from 1 stand in `failing` fail, and each one while
     /// the sink is full. A number that has reached the greatest `u64` stays there.
     pub fn new(alloc: Global, room: usize, failing: Vec<u64>) -> Result<MemorySink, AllocError>
-        ensures { IfOk result (λ s. s ≡ record { held = []; room = room; failing = failing.items; writes = 0; faults = 0 }) }
+        ensures { IfOk result (λ s. s ≡ record { held = []; room = room; failing = failing.items; fails_to_flush = false; writes = 0; faults = 0 }) }
     {
         let bytes = Vec::with_capacity(alloc, room)?;
         Ok(MemorySink {
             bytes,
             room,
             failing,
+            fails_to_flush: false,
             writes: 0,
             faults: 0,
         })
+    }
+
+    /// The sink, each flush of which fails.
+    pub fn failing_to_flush(mut self) -> MemorySink
+        ensures { result ≡ record self { fails_to_flush = true } }
+    {
+        self.fails_to_flush = true;
+        self
     }
 
     /// What the sink holds.
@@ -139,9 +149,11 @@ impl MemorySink {
 
 impl Sink for MemorySink {
     ghost use Rattle.std.specs.Prelude.{Some};
-    ghost use Rattle.sd_text.specs.Memory.{TakesPiece};
+    ghost use Rattle.sd_text.specs.Memory.{Flushes, TakesPiece, kept_back};
 
     ghost contents = { λ s. Some s.held };
+
+    ghost held_back = { kept_back };
 
     ghost fault_count = { λ s. s.faults };
 
@@ -170,5 +182,22 @@ impl Sink for MemorySink {
         let count = free.min(bytes.len());
         self.bytes.extend_from_slice(&bytes[..count]).unwrap();
         Ok(count)
+    }
+
+    fn flush(&mut self) -> Result<(), Failed>
+        ensures never_falls { self.old.faults ≤ self.new.faults }
+        ensures no_fault { OnOk result (self.new.faults ≡ self.old.faults) }
+        ensures failed_only_where_risen { OnErr result (HasRisen self.old.faults self.new.faults) }
+        ensures same { Keeps (Some self.old.held) (Some self.new.held) }
+        ensures handed_on { OnOk result (kept_back self.new ≡ []) }
+
+        // Exactly what the flush does.
+        ensures flushed { Flushes self.old self.new result }
+    {
+        if self.fails_to_flush {
+            self.faults = self.faults.saturating_add(1);
+            return Err(Failed);
+        }
+        Ok(())
     }
 }

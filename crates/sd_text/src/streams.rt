@@ -1,13 +1,13 @@
 //! What the program reads from and writes to, and what is known of it: the bytes, where it tells them,
 //! and a count of faults.
-ghost use Rattle.std.specs.Prelude.{◌≡◌, ℕ, ◌<◌, ◌≤◌, List, Option, None, IfOk, OnOk, OnErr, length};
-ghost use Rattle.std.specs.Io.KnownBytes.{ReadConsumes, WriteAppends};
+ghost use Rattle.std.specs.Prelude.{◌≡◌, ℕ, ◌<◌, ◌≤◌, List, [], Option, None, IfOk, OnOk, OnErr, length};
+ghost use Rattle.std.specs.Io.KnownBytes.{Keeps, ReadConsumes, WriteAppends};
 ghost use Rattle.sd_text.specs.Faults.{HasRisen};
 ghost use Rattle.sd_text.specs.Lines.{IsOneLine};
 
 use thiserror::Error;
 
-/// A read or a write failed. The count of its object's faults rose in that call, and shows it.
+/// A read, a write or a flush failed. The count of its object's faults rose in that call, and shows it.
 #[derive(Clone, Copy, Debug, PartialEq, Eq, Error)]
 #[error("a read or a write failed")]
 pub struct Failed;
@@ -38,13 +38,16 @@ pub trait Source {
 
 /// Where bytes go.
 pub trait Sink {
-    // The bytes that it holds, where the sink tells them.
+    // The bytes that it holds, where the sink tells them: those that it has handed on, and then those that it holds back.
     ghost contents: { Self → Option (List ℕ) } = { λ _. None };
 
-    // How many writes have failed.
+    // The last bytes that it holds, which it has not handed on yet.
+    ghost held_back: { Self → List ℕ } = { λ _. [] };
+
+    // How many writes and flushes have failed.
     ghost fault_count: { Self → ℕ };
 
-    /// How many writes have failed. It never falls, and stays at the greatest `u64` once it is there.
+    /// How many writes and flushes have failed. It never falls, and stays at the greatest `u64` once it is there.
     fn faults(&self) -> u64
         ensures { result ≡ fault_count self.now };
 
@@ -60,4 +63,12 @@ pub trait Sink {
         ensures bound { IfOk result (λ n. n ≤ length bytes.now) }
         ensures progress { IfOk result (λ n. 0 < n) }
         ensures bytes { WriteAppends (contents self.old) (contents self.new) result bytes.now };
+
+    /// Hands on everything that was written so far. It appends nothing; after a flush that failed the sink holds what it held.
+    fn flush(&mut self) -> Result<(), Failed>
+        ensures never_falls { fault_count self.old ≤ fault_count self.new }
+        ensures no_fault { OnOk result (fault_count self.new ≡ fault_count self.old) }
+        ensures failed_only_where_risen { OnErr result (HasRisen (fault_count self.old) (fault_count self.new)) }
+        ensures same { Keeps (contents self.old) (contents self.new) }
+        ensures handed_on { OnOk result (held_back self.new ≡ []) };
 }

@@ -6,7 +6,7 @@ ghost use Rattle.sd_timeline.specs.Labels.{fold_text, fold_title, has_room, inhe
 use crate::parts::{Part, put_parts};
 use crate::pieces::{put_bar_end, put_bar_start, put_number_label, put_word_label};
 use sd_layout::{Column, Layout, Row};
-use sd_stretches::{History, Level, levels};
+use sd_stretches::{ByThread, Level, levels};
 use sd_types::Work;
 use std::alloc::{AllocError, Global};
 
@@ -101,13 +101,13 @@ fn push_labelled(
     alloc: Global,
     work: &Work,
     layout: &Layout,
-    history: &History,
+    history: &ByThread,
     t: usize,
     found: &mut Vec<Level>,
 ) -> Result<(), AllocError>
     ensures { OnOk result (found.new.items ≡ found.old.items ++ labelled_by work.now layout.now history.now t) }
 {
-    let own = levels(alloc, &history.ranks, t, work.limit)?;
+    let own = levels(alloc, history, t, work.limit)?;
     push_levels(layout, &own, found)
 }
 
@@ -117,7 +117,7 @@ pub(crate) fn labelled(
     alloc: Global,
     work: &Work,
     layout: &Layout,
-    history: &History,
+    history: &ByThread,
 ) -> Result<Vec<Level>, AllocError>
     ensures { IfOk result (λ v. v.items ≡ labelled work.now layout.now history.now) }
 {

@@ -13,7 +13,7 @@ use crate::moments::{drawn_pieces, is_moment};
 use crate::parts::{Part, put_parts};
 use crate::pieces::{put_bar_start, put_path_start, put_word_label};
 use sd_layout::Layout;
-use sd_stretches::{Doing, HandOver, History, Level, Stretch, Wakeup, thread_name};
+use sd_stretches::{ByThread, Doing, HandOver, Level, Stretch, Wakeup, thread_name};
 use sd_types::Work;
 use std::alloc::{AllocError, Global};
 use std::marker::Model;
@@ -84,12 +84,12 @@ pub(crate) fn drawn_of(
     alloc: Global,
     work: &Work,
     layout: &Layout,
-    history: &History,
+    history: &ByThread,
 ) -> Result<Drawn, AllocError>
     ensures { IfOk result (λ drawn. drawn ≡ drawn_of work.now layout.now history.now) }
 {
     let pieces = drawn_pieces(alloc, work, layout, history)?;
-    let hand_overs = drawn_hands(alloc, layout, history)?;
+    let hand_overs = drawn_hands(alloc, layout, &history.history)?;
     let levels = labelled(alloc, work, layout, history)?;
     Ok(Drawn {
         pieces,
@@ -273,7 +273,7 @@ fn any_inherited(levels: &[Level]) -> bool
 }
 
 // What the key explains is drawn.
-fn occurs(work: &Work, layout: &Layout, history: &History, drawn: &Drawn, key: Key) -> bool
+fn occurs(work: &Work, layout: &Layout, history: &ByThread, drawn: &Drawn, key: Key) -> bool
     ensures { result ≡ occurs work.now layout.now history.now drawn.now key }
 {
     match key {
@@ -281,7 +281,7 @@ fn occurs(work: &Work, layout: &Layout, history: &History, drawn: &Drawn, key: K
         Key::Name => any_name(work, layout, &drawn.pieces),
         Key::Lock => any_lock(work, layout, &drawn.pieces),
         Key::Moment => any_moment(layout, &drawn.pieces),
-        Key::Wake => any_wakeup(layout, &history.wakeups),
+        Key::Wake => any_wakeup(layout, &history.history.wakeups),
         Key::HandOver => !drawn.hand_overs.is_empty(),
         Key::Own => any_own(&drawn.levels),
         Key::Inherited => any_inherited(&drawn.levels),
@@ -292,7 +292,7 @@ fn occurs(work: &Work, layout: &Layout, history: &History, drawn: &Drawn, key: K
 fn push_key(
     work: &Work,
     layout: &Layout,
-    history: &History,
+    history: &ByThread,
     drawn: &Drawn,
     key: Key,
     keys: &mut Vec<Key>,
@@ -308,7 +308,7 @@ fn push_key(
 fn push_keys(
     work: &Work,
     layout: &Layout,
-    history: &History,
+    history: &ByThread,
     drawn: &Drawn,
     all: &[Key],
     keys: &mut Vec<Key>,
@@ -326,7 +326,7 @@ fn keys_of(
     alloc: Global,
     work: &Work,
     layout: &Layout,
-    history: &History,
+    history: &ByThread,
     drawn: &Drawn,
 ) -> Result<Vec<Key>, AllocError>
     ensures { IfOk result (λ v. v.items ≡ keys_of work.now layout.now history.now drawn.now) }
@@ -438,7 +438,7 @@ pub(crate) fn put_legend(
     alloc: Global,
     work: &Work,
     layout: &Layout,
-    history: &History,
+    history: &ByThread,
     drawn: &Drawn,
     out: &mut Vec<u8>,
 ) -> Result<(), AllocError>

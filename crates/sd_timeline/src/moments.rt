@@ -7,7 +7,7 @@ ghost use Rattle.sd_timeline.specs.Moments.{cpu_moment, drawn_by, drawn_pieces, 
 use crate::bars::put_title;
 use crate::pieces::{put_path_end, put_path_start};
 use sd_layout::{Layout, Row};
-use sd_stretches::{Doing, History, Stretch, Track, does_run, pieces};
+use sd_stretches::{ByThread, Doing, Stretch, Track, does_run, pieces};
 use sd_types::Work;
 use std::alloc::{AllocError, Global};
 
@@ -52,7 +52,7 @@ fn push_own(
     alloc: Global,
     work: &Work,
     layout: &Layout,
-    history: &History,
+    history: &ByThread,
     t: usize,
     found: &mut Vec<Stretch>,
 ) -> Result<(), AllocError>
@@ -68,7 +68,7 @@ pub(crate) fn drawn_pieces(
     alloc: Global,
     work: &Work,
     layout: &Layout,
-    history: &History,
+    history: &ByThread,
 ) -> Result<Vec<Stretch>, AllocError>
     ensures { IfOk result (λ v. v.items ≡ drawn_pieces work.now layout.now history.now) }
 {

@@ -17,7 +17,7 @@ use crate::moments::put_moments;
 use crate::notes::put_notes;
 use sd_layout::{Frame, Layout, layout_of};
 use sd_state::State;
-use sd_stretches::{History, Stretch, Track, levels, pieces};
+use sd_stretches::{ByThread, Stretch, Track, levels, pieces};
 use sd_types::{CpuId, Work};
 use std::alloc::{AllocError, Global};
 
@@ -37,7 +37,7 @@ fn put_own_row(
     alloc: Global,
     work: &Work,
     layout: &Layout,
-    history: &History,
+    history: &ByThread,
     s: &State,
     t: usize,
     own: &[Stretch],
@@ -49,7 +49,7 @@ fn put_own_row(
     put_thread_head(work, layout, row, t, out)?;
     put_bound_label(layout, row, bound_of(s, t), out)?;
     put_bars(work, layout, row, own, out)?;
-    let own_levels = levels(alloc, &history.ranks, t, work.limit)?;
+    let own_levels = levels(alloc, history, t, work.limit)?;
     put_levels(layout, row, &own_levels, out)
 }
 
@@ -57,7 +57,7 @@ fn put_row_if(
     alloc: Global,
     work: &Work,
     layout: &Layout,
-    history: &History,
+    history: &ByThread,
     s: &State,
     t: usize,
     own: &[Stretch],
@@ -77,7 +77,7 @@ fn put_thread(
     alloc: Global,
     work: &Work,
     layout: &Layout,
-    history: &History,
+    history: &ByThread,
     s: &State,
     t: usize,
     out: &mut Vec<u8>,
@@ -93,7 +93,7 @@ fn put_threads(
     alloc: Global,
     work: &Work,
     layout: &Layout,
-    history: &History,
+    history: &ByThread,
     s: &State,
     out: &mut Vec<u8>,
 ) -> Result<(), AllocError>
@@ -136,14 +136,14 @@ fn put_deadlocks(
 fn put_arrows(
     work: &Work,
     layout: &Layout,
-    history: &History,
+    history: &ByThread,
     drawn: &Drawn,
     out: &mut Vec<u8>,
 ) -> Result<(), AllocError>
     ensures { OnOk result (out.new.items ≡ out.old.items ++ (flat_map (wake_text work.now layout.now) history.now.wakeups.items
         ++ hand_texts work.now layout.now None 0 drawn.now.hand_overs)) }
 {
-    put_wakeups(work, layout, &history.wakeups, out)?;
+    put_wakeups(work, layout, &history.history.wakeups, out)?;
     put_hand_overs(work, layout, &drawn.hand_overs, out)
 }
 
@@ -153,7 +153,7 @@ fn put_ground(
     alloc: Global,
     work: &Work,
     layout: &Layout,
-    history: &History,
+    history: &ByThread,
     drawn: &Drawn,
     out: &mut Vec<u8>,
 ) -> Result<(), AllocError>
@@ -170,7 +170,7 @@ fn put_rows(
     alloc: Global,
     work: &Work,
     layout: &Layout,
-    history: &History,
+    history: &ByThread,
     pieces: &[Stretch],
     s: &State,
     cycles: &[Vec<usize>],
@@ -181,7 +181,7 @@ fn put_rows(
 {
     put_threads(alloc, work, layout, history, s, out)?;
     put_moments(work, layout, pieces, out)?;
-    put_notes(work, layout, &history.happenings, out)?;
+    put_notes(work, layout, &history.history.happenings, out)?;
     put_deadlocks(work, layout, s, cycles, out)?;
     put_gaps(layout, &layout.folds, out)
 }
@@ -192,7 +192,7 @@ fn laid_out(
     alloc: Global,
     work: &Work,
     layout: &Layout,
-    history: &History,
+    history: &ByThread,
     s: &State,
     cycles: &[Vec<usize>],
     drawn: &Drawn,
@@ -221,7 +221,7 @@ pub fn timeline(
     alloc: Global,
     work: &Work,
     frame: Frame,
-    history: &History,
+    history: &ByThread,
     s: &State,
     cycles: &[Vec<usize>],
 ) -> Result<Vec<u8>, AllocError>

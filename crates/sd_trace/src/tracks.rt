@@ -8,7 +8,7 @@ use crate::flows::{put_hand_overs, put_loads, put_wakeups};
 use crate::marks::put_marks;
 use crate::slices::{put_run_slices, put_states};
 use crate::words::{cpu_number, thread_number};
-use sd_stretches::{History, Track, pieces, put_counted, thread_name};
+use sd_stretches::{ByThread, Track, pieces, put_counted, thread_name};
 use sd_types::Work;
 use std::alloc::{AllocError, Global};
 
@@ -76,7 +76,7 @@ fn put_cpu_track(c: u16, out: &mut Vec<u8>) -> Result<(), AllocError>
 fn put_cpu(
     alloc: Global,
     work: &Work,
-    history: &History,
+    history: &ByThread,
     c: u16,
     out: &mut Vec<u8>,
 ) -> Result<(), AllocError>
@@ -90,7 +90,7 @@ fn put_cpu(
 fn put_cpus(
     alloc: Global,
     work: &Work,
-    history: &History,
+    history: &ByThread,
     out: &mut Vec<u8>,
 ) -> Result<(), AllocError>
     ensures { OnOk result (out.new.items ≡ out.old.items ++ flat_map (cpu_part work.now history.now) (range_with_len 0 work.now.cpus)) }
@@ -117,7 +117,7 @@ fn put_thread_track(work: &Work, t: u16, out: &mut Vec<u8>) -> Result<(), AllocE
 fn put_thread(
     alloc: Global,
     work: &Work,
-    history: &History,
+    history: &ByThread,
     t: u16,
     out: &mut Vec<u8>,
 ) -> Result<(), AllocError>
@@ -131,7 +131,7 @@ fn put_thread(
 fn put_threads(
     alloc: Global,
     work: &Work,
-    history: &History,
+    history: &ByThread,
     out: &mut Vec<u8>,
 ) -> Result<(), AllocError>
     ensures { OnOk result (out.new.items ≡ out.old.items ++ flat_map (thread_part work.now history.now) (range_with_len 0 (length work.now.threads))) }
@@ -165,7 +165,7 @@ fn put_threads_start(out: &mut Vec<u8>) -> Result<(), AllocError>
 fn put_all_tracks(
     alloc: Global,
     work: &Work,
-    history: &History,
+    history: &ByThread,
     out: &mut Vec<u8>,
 ) -> Result<(), AllocError>
     ensures { OnOk result (out.new.items ≡ out.old.items ++ all_tracks work.now history.now) }
@@ -178,15 +178,15 @@ fn put_all_tracks(
 
 /// The trace of a run of the workload, of which this is the history.
 #[tactic(auto, unfolding(crate::specs::Tracks::trace_text))]
-pub fn trace(alloc: Global, work: &Work, history: &History) -> Result<Vec<u8>, AllocError>
+pub fn trace(alloc: Global, work: &Work, history: &ByThread) -> Result<Vec<u8>, AllocError>
     ensures { IfOk result (λ text. text.items ≡ trace_text work.now history.now) }
 {
     let mut text = Vec::new(alloc);
     put_all_tracks(alloc, work, history, &mut text)?;
-    put_wakeups(work, &history.wakeups, &mut text)?;
-    put_hand_overs(work, &history.hand_overs, &mut text)?;
-    put_marks(work, &history.happenings, &mut text)?;
-    put_loads(work, &history.loads, &mut text)?;
+    put_wakeups(work, &history.history.wakeups, &mut text)?;
+    put_hand_overs(work, &history.history.hand_overs, &mut text)?;
+    put_marks(work, &history.history.happenings, &mut text)?;
+    put_loads(work, &history.history.loads, &mut text)?;
     text.extend_from_slice(b"\n]}\n")?;
     Ok(text)
 }

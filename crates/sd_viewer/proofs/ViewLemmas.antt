@@ -13,6 +13,8 @@ use Rattle.sd_answers.specs.declared.answers.Answer.TheVariants.{Done, Usage, Wr
 use Rattle.sd_answers.specs.declared.writing.Unwritten.{Unwritten}
 use Rattle.sd_answers.specs.declared.writing.Unwritten.TheVariants as unwritten
 use Rattle.sd_answers.specs.Answers.{status_of, unwritten_answer}
+use Rattle.sd_answers.specs.Handing.{LeavesHeldBy}
+use Rattle.sd_answers.proofs.HandingLemmas.{leaves_unjudged}
 use Rattle.sd_answers.specs.Certificates.{HoldsJournal, CausedByCertificate, CompletesCertificate, RefusesCertificate, RefusesFaulty, RefusesJournal}
 use Rattle.sd_answers.specs.Starts.{WritesHelp}
 use Rattle.sd_answers.specs.StreamChanges.{StreamChange, IsUntouched, Puts, TellsLine}
@@ -22,6 +24,8 @@ use Rattle.sd_viewer.specs.declared.forms.Request.{Request}
 use Rattle.sd_viewer.specs.declared.forms.Request.TheVariants.{Help, Draw}
 use Rattle.sd_viewer.specs.Forms.{request_of}
 use Rattle.sd_viewer.proofs.ClosingLemmas.{left-ends}
+use Rattle.sd_viewer.specs.declared.viewing.Drawn.{Drawn}
+use Rattle.sd_viewer.specs.Drawings.{left_line}
 use Rattle.sd_viewer.specs.Promises.{ShowsAsPromised}
 use Rattle.sd_viewer.specs.Viewing.{IsDrawnInput, IsDrawing, Draws, CausedByView, CausedByViewHelp, CausedByViewRequest, answer_line, viewed_answer, viewed_line, help_text}
 
@@ -137,3 +141,15 @@ promises_of arguments input out err a line status is caused told =
       helps = λ known. subst (WritesHelp help_text input out) (sym is) (helps_of input out a (helped known).0 (helped known).2);
       usage = subst (λ s. (s ≡ 1) ↔ (request_of arguments ≡ None)) (sym is) (usage_of (request_of arguments) input out a line caused);
     }
+
+-- ---- what is held back
+
+-- what the exit of a `?` returns
+pub leaves_exit : (r : Result (Vec ℕ Global) Answer) (a : Answer) (before after : List ℕ) → IsErrAnd r (λ y. y ≡ a) → LeavesHeldBy a before after → LeavesHeldBy (viewed_answer r) before after
+leaves_exit r a before after exit left =
+    let x = err_from_is_err_and r exit in
+    subst (λ y. LeavesHeldBy (viewed_answer y) before after) (sym (x.1 ∙ ap Err x.2)) left
+
+-- nothing was written where nothing was drawn
+pub leaves_undrawn : (d : Drawing) (input : StreamChange) (a : Answer) (held : List ℕ) → IsDrawing d input (Err a) → LeavesHeldBy a held held
+leaves_undrawn d input a held why = leaves_unjudged (λ (x : Drawn). (of : IsDrawnInput d input x.text.items) × (x.line.items ≡ left_line d of.work)) input a held why

@@ -38,18 +38,25 @@ enum View {
 }
 
 /// What the view shows of a run.
-fn view_text(alloc: Global, work: &Work, view: View, run: &Gathered) -> Result<Vec<u8>, AllocError>
-    requires { map (λ v. v.items) run.now.cycles.items ≡ cycles_of run.now.end }
-    ensures { IfOk result (λ out. out.items ≡ view_text view work.now run.now.history run.now.end) }
+fn view_text(alloc: Global, work: &Work, view: View, run: Gathered) -> Result<Vec<u8>, AllocError>
+    requires { map (λ v. v.items) run.cycles.items ≡ cycles_of run.end }
+    ensures { IfOk result (λ out. out.items ≡ view_text view work.now run.history run.end) }
 {
+    let Gathered {
+        history,
+        end,
+        cycles,
+        ..
+    } = run;
+    let history = history.by_thread(alloc)?;
     match view {
         View::Timeline { from, to } => {
             let frame = frame_of(work, from, to);
-            timeline(alloc, work, frame, &run.history, &run.end, &run.cycles)
+            timeline(alloc, work, frame, &history, &end, &cycles)
         }
-        View::Trace => trace(alloc, work, &run.history),
-        View::Report => report(alloc, work, &run.history),
-        View::Sheet => sheet(alloc, work, &run.history),
+        View::Trace => trace(alloc, work, &history),
+        View::Report => report(alloc, work, &history),
+        View::Sheet => sheet(alloc, work, &history),
     }
 }
 
@@ -60,10 +67,9 @@ fn draw_view(alloc: Global, work: &Work, text: &[u8], view: View) -> Result<Vec<
     ensures fault { IfErr result (IsFault work.now text.now) }
 {
     let gathered = gather(alloc, work, text)?;
-    let Ok(out) = view_text(alloc, work, view, &gathered) else {
-        return Err(AuditFault::Memory {
-            number: gathered.number,
-        });
+    let number = gathered.number;
+    let Ok(out) = view_text(alloc, work, view, gathered) else {
+        return Err(AuditFault::Memory { number });
     };
     Ok(out)
 }

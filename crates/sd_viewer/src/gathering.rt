@@ -1,39 +1,58 @@
 //! The history of a journal, gathered while the journal is judged.
 
-ghost use Rattle.std.specs.Prelude.{◌≡◌, ◌<◌, ◌^◌, ◌↔◌, IfOk, IfErr, length};
+ghost use Rattle.std.specs.Prelude.{◌≡◌, ◌<◌, ◌^◌, [], IfOk, IfErr, length};
+ghost use Rattle.sd_state.specs.Opening.{opening as opening_of};
+ghost use Rattle.sd_machine.specs.Runs.{final};
 ghost use Rattle.sd_audit.specs.Audits.{IsFault};
 ghost use Rattle.sd_stretches.specs.Histories.{IsHistory};
 ghost use Rattle.sd_viewer.specs.Gathering.{IsGathered};
 
 use sd_audit::{AuditFault, Collector, Judged, audit_collecting};
+use sd_homes_replay::step;
 use sd_opening::opening;
-use sd_replay::step;
+use sd_replay::apply;
 use sd_state::State;
 use sd_stretches::History;
 use sd_types::{Entry, Work};
+use sd_world::PlainWorld;
 use std::alloc::{AllocError, Global};
 
-/// The history of the entries that were made so far.
+/// The history of the entries that were made so far, and the state to which they led: beside the homes, so that no look for the
+/// history goes through them.
 #[derive(Drop)]
-struct Historian(History);
+struct Historian {
+    history: History,
+    state: State,
+}
 
 impl Collector for Historian {
-    ghost became = { λ w es first historian. IsHistory w es historian.0 };
+    ghost became = { λ w es first historian. IsHistory w es historian.history × (historian.state ≡ final w (opening_of w) es) };
 
     fn enter(
         &mut self,
-        alloc: Global,
+        _alloc: Global,
         work: &Work,
-        s: &mut State,
+        world: &mut PlainWorld<'_>,
         entry: &Entry,
     ) -> Result<bool, AllocError> {
-        if step(work, s, entry) {
-            self.0.add(alloc, s, entry)?;
+        if step(work, world, entry)? {
+            apply(work, &mut self.state, entry.number, entry.cpu, entry.event);
+            self.history.add(&self.state, entry)?;
             Ok(true)
         } else {
             Ok(false)
         }
     }
+}
+
+/// The history of a run before its first entry.
+fn begin(alloc: Global, work: &Work) -> Result<Historian, AllocError>
+    ensures history { IfOk result (λ h. IsHistory work.now [] h.history) }
+    ensures state { IfOk result (λ h. h.state ≡ final work.now (opening_of work.now) []) }
+{
+    let state = opening(alloc, work)?;
+    let history = History::new(alloc, &state)?;
+    Ok(Historian { history, state })
 }
 
 /// A complete legal run, as pictures and reports need it: its history, its final state with its blocking cycles, and how many entries it has.
@@ -54,17 +73,16 @@ pub(crate) fn gather(alloc: Global, work: &Work, text: &[u8]) -> Result<Gathered
     let Ok(s) = opening(alloc, work) else {
         return Err(AuditFault::Memory { number: 0 });
     };
-    let Ok(history) = History::new(alloc, &s) else {
+    let Ok(mut historian) = begin(alloc, work) else {
         return Err(AuditFault::Memory { number: 0 });
     };
-    let mut historian = Historian(history);
     let Judged {
         end,
         number,
         cycles,
     } = audit_collecting(alloc, work, text, s, &mut historian)?;
     Ok(Gathered {
-        history: historian.0,
+        history: historian.history,
         end,
         cycles,
         number,

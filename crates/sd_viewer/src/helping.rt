@@ -1,10 +1,11 @@
 //! The forms of the arguments, in a few lines.
 
 ghost use Rattle.std.specs.Prelude.{◌≡◌};
+ghost use Rattle.sd_answers.specs.Handing.{LeavesHeldBy};
 ghost use Rattle.sd_answers.specs.StreamChanges.{change_of};
 ghost use Rattle.sd_viewer.specs.Viewing.{CausedByViewHelp, answer_line, viewed_answer, viewed_line};
 
-use sd_answers::{Answer, put_text};
+use sd_answers::{Answer, print_text};
 use sd_text::Sink;
 use std::alloc::Global;
 
@@ -24,9 +25,10 @@ report --csv      the same for a spreadsheet (CSV)
 /// Writes the forms. There is nothing more to say.
 pub(crate) fn put_help<K: Sink>(alloc: Global, out: &mut K) -> Result<Vec<u8>, Answer>
     ensures caused { CausedByViewHelp (change_of (K.contents out.old) (K.contents out.new) (K.fault_count out.old) (K.fault_count out.new)) (viewed_answer result) }
+    ensures leaves { LeavesHeldBy (viewed_answer result) (K.held_back out.old) (K.held_back out.new) }
     ensures line { viewed_line result ≡ answer_line (viewed_answer result) }
 {
-    match put_text(out, HELP) {
+    match print_text(out, HELP) {
         Ok(()) => Ok(Vec::new(alloc)),
         Err(_) => Err(Answer::WriteFault),
     }

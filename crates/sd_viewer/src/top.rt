@@ -2,6 +2,7 @@
 
 ghost use Rattle.std.specs.Prelude.{◌≡◌, map, string_bytes, IfOk};
 ghost use Rattle.sd_answers.specs.Answers.{status_of};
+ghost use Rattle.sd_answers.specs.Handing.{IsHandedOn};
 ghost use Rattle.sd_answers.specs.StreamChanges.{TellsLine, change_of};
 ghost use Rattle.sd_text.specs.Lines.{EndsLine};
 ghost use Rattle.sd_viewer.specs.Promises.{ShowsAsPromised};
@@ -42,7 +43,7 @@ fn tell<E: Sink>(viewed: Result<Vec<u8>, Answer>, err: &mut E) -> u8
 /// journal or no accepted workload), 3 (a read failed), 4 (a write failed), 5 (out of memory) or 7 (the journal is not that of
 /// a complete run). Nothing is written to `out` before the journal was judged. Each status but 0 leaves a line on `err`, and 0
 /// does exactly where ticks that were asked for or threads of the workload are left out, or the run does not have what was asked
-/// for. `--help` reads nothing, and writes the forms.
+/// for. `--help` reads nothing, and writes the forms. With status 0 `out` has handed on all that it holds.
 pub fn view<S: Source, K: Sink, E: Sink>(
     alloc: Global,
     arguments: &[String],
@@ -50,11 +51,12 @@ pub fn view<S: Source, K: Sink, E: Sink>(
     out: &mut K,
     err: &mut E,
 ) -> u8
-    ensures { ShowsAsPromised (map string_bytes arguments.now)
+    ensures promises { ShowsAsPromised (map string_bytes arguments.now)
         (change_of (S.remaining input.old) (S.remaining input.new) (S.fault_count input.old) (S.fault_count input.new))
         (change_of (K.contents out.old) (K.contents out.new) (K.fault_count out.old) (K.fault_count out.new))
         (change_of (E.contents err.old) (E.contents err.new) (E.fault_count err.old) (E.fault_count err.new))
         result }
+    ensures handed_on { IsHandedOn result (K.held_back out.old) (K.held_back out.new) }
 {
     match request_of(arguments) {
         Some(Request::Help) => tell(put_help(alloc, out), err),
@@ -72,11 +74,12 @@ pub fn start<S: Source, K: Sink, E: Sink>(
     out: &mut K,
     err: &mut E,
 ) -> u8
-    ensures { DispviewStarts arguments
+    ensures promises { DispviewStarts arguments
         (change_of (S.remaining input.old) (S.remaining input.new) (S.fault_count input.old) (S.fault_count input.new))
         (change_of (K.contents out.old) (K.contents out.new) (K.fault_count out.old) (K.fault_count out.new))
         (change_of (E.contents err.old) (E.contents err.new) (E.fault_count err.old) (E.fault_count err.new))
         result }
+    ensures handed_on { IsHandedOn result (K.held_back out.old) (K.held_back out.new) }
 {
     match arguments {
         Ok(arguments) => view(alloc, &arguments, input, out, err),

@@ -217,16 +217,49 @@ fn writes_while_there_is_room(narrow: &mut StdSink<Narrow>) -> bool {
     is_written && one_fault && two_faults
 }
 
-fn has_room_for_five() -> bool {
-    let mut narrow = StdSink::new(Narrow { room: 5 });
+fn has_room_for_five(alloc: Global) -> bool {
+    let mut narrow = StdSink::unbuffered(alloc, Narrow { room: 5 });
     writes_while_there_is_room(&mut narrow)
+}
+
+// The writer takes nothing before the flush, and five bytes of six then. What it did not take is still held back.
+fn holds_back_what_is_not_taken(narrow: &mut StdSink<Narrow>) -> bool {
+    let is_written = write_piece(narrow, b"abc\n") == Ok(())
+        && write_piece(narrow, b"d\n") == Ok(());
+    let is_quiet = narrow.faults() == 0;
+    let one_fault = narrow.flush() == Err(Failed) && narrow.faults() == 1;
+    let two_faults = narrow.flush() == Err(Failed) && narrow.faults() == 2;
+    is_written && is_quiet && one_fault && two_faults
+}
+
+fn is_flushed_as_far_as_there_is_room(alloc: Global) -> bool {
+    match StdSink::buffered(alloc, Narrow { room: 5 }) {
+        Ok(mut narrow) => holds_back_what_is_not_taken(&mut narrow),
+        Err(_) => false,
+    }
+}
+
+fn is_flushed_whole(alloc: Global) -> bool {
+    match StdSink::buffered(alloc, Narrow { room: 6 }) {
+        Ok(mut wide) => {
+            let is_written = write_piece(&mut wide, b"abcde\n") == Ok(());
+            is_written && wide.flush() == Ok(()) && wide.faults() == 0
+        }
+        Err(_) => false,
+    }
 }
 
 #[test]
 fn adapters_count_faults(rt: HostRuntime) {
     is_so(&rt, Ok(reads_whole(rt.alloc())));
     is_so(&rt, Ok(reads_until_it_halts(rt.alloc())));
-    is_so(&rt, Ok(has_room_for_five()));
+    is_so(&rt, Ok(has_room_for_five(rt.alloc())));
+}
+
+#[test]
+fn a_buffer_is_handed_on_at_a_flush(rt: HostRuntime) {
+    is_so(&rt, Ok(is_flushed_whole(rt.alloc())));
+    is_so(&rt, Ok(is_flushed_as_far_as_there_is_room(rt.alloc())));
 }
 
 // A text, where the search begins, and from where to where the line or word is that is found.

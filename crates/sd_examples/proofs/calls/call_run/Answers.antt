@@ -19,4 +19,4 @@ returns c =
     let called = c.serial-status in
     writes-of KeepsPromises (map string_bytes c.deref.result.now) (codes "run" ∷ []) c.args.workload.now
     c.in_ok-input.input called.new.input c.in_ok-out.out called.new.out c.in_ok-err.err called.new.err called.result
-    (ap (map string_bytes) c.deref.ensures.value ∙ c.in_ok-arguments.ensures) c.in_ok-input.ensures c.in_ok-out.ensures called.ensures
+    (ap (map string_bytes) c.deref.ensures.value ∙ c.in_ok-arguments.ensures) c.in_ok-input.ensures c.in_ok-out.ensures called.ensures.promises

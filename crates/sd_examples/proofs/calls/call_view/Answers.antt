@@ -9,4 +9,4 @@ returns c =
     let called = c.view-status in
     writes-of ShowsAsPromised (map string_bytes c.deref.result.now) (c.args.word.now ∷ []) c.args.certificate.now
     c.in_ok-input.input called.new.input c.in_ok-out.out called.new.out c.in_ok-err.err called.new.err called.result
-    (ap (map string_bytes) c.deref.ensures.value ∙ c.in_ok-arguments.ensures) c.in_ok-input.ensures c.in_ok-out.ensures called.ensures
+    (ap (map string_bytes) c.deref.ensures.value ∙ c.in_ok-arguments.ensures) c.in_ok-input.ensures c.in_ok-out.ensures called.ensures.promises

@@ -1,4 +1,5 @@
-use Rattle.std.proofs.Common.{Some, Err, Result, map, refl, sym, ap, subst, ◌∙◌}
+use Rattle.std.proofs.Common.{ℕ, Some, Err, Result, map, refl, sym, ap, subst, ◌∙◌, inl}
+use Rattle.sd_answers.specs.Handing.{IsHandedOn}
 use Rattle.std.specs.Prelude.{string_bytes}
 use Rattle.sd_answers.specs.declared.answers.Answer.{Answer}
 use Rattle.sd_answers.specs.declared.answers.Answer.TheVariants.{Usage}
@@ -9,10 +10,11 @@ use Rattle.sd_search_answers.specs.Forms.{request_of}
 use Rattle.sd_find.specs.Asked.{asked}
 use Rattle.sd_find.specs.Seeking.{CausedByFindRequest}
 use Rattle.sd_find.proofs.FindLemmas.{promises_of}
+use Rattle.sd_find.proofs.HandingLemmas.{handed_at_end}
 use Rattle.sd_find.proofs.top.find.Goals as goal
 
-pub returns-in-Some-Search : goal.returns-in-Some-Search
-returns-in-Some-Search g c =
+pub returns-in-Some-Search-clause-promises : goal.returns-in-Some-Search-clause-promises
+returns-in-Some-Search-clause-promises g c =
     let left = g.S.Source.remaining in
     let read = g.S.Source.fault_count in
     let held = g.K.Sink.contents in
@@ -29,10 +31,10 @@ returns-in-Some-Search g c =
     let out = change_of (held o) (held p) (written o) (written p) in
     promises_of (asked (map string_bytes c.args.arguments.now)) input out (change_of (shown e) (shown f) (failed e) (failed f)) c.seek_watched-ended.result c.report-in-Some-Search.result
     c.report-in-Some-Search.ensures.status
-    (subst (λ k. CausedByFindRequest k input out c.seek_watched-ended.result) (sym (ap request_of (sym c.asked.ensures) ∙ sym c.request_of.ensures ∙ c.in-Some-Search.is ∙ ap (λ (r : Request). Some r) c.in-Some-Search.field-0-is)) c.seek_watched-ended.ensures) c.report-in-Some-Search.ensures.told
+    (subst (λ k. CausedByFindRequest k input out c.seek_watched-ended.result) (sym (ap request_of (sym c.asked.ensures) ∙ sym c.request_of.ensures ∙ c.in-Some-Search.is ∙ ap (λ (r : Request). Some r) c.in-Some-Search.field-0-is)) c.seek_watched-ended.ensures.caused) c.report-in-Some-Search.ensures.told
 
-pub returns-in-Some-Help : goal.returns-in-Some-Help
-returns-in-Some-Help g c =
+pub returns-in-Some-Help-clause-promises : goal.returns-in-Some-Help-clause-promises
+returns-in-Some-Help-clause-promises g c =
     let left = g.S.Source.remaining c.args.input.now in
     let read = g.S.Source.fault_count c.args.input.now in
     let held = g.K.Sink.contents in
@@ -47,10 +49,10 @@ returns-in-Some-Help g c =
     let out = change_of (held o) (held p) (written o) (written p) in
     promises_of (asked (map string_bytes c.args.arguments.now)) input out (change_of (shown e) (shown f) (failed e) (failed f)) c.put_help.result c.report.result
     c.report.ensures.status
-    (subst (λ k. CausedByFindRequest k input out c.put_help.result) (sym (ap request_of (sym c.asked.ensures) ∙ sym c.request_of.ensures ∙ c.in-Some-Help.is ∙ ap (λ (r : Request). Some r) c.in-Some-Help.field-0-is)) (record { bytes = refl; no_fault = refl }, c.put_help.ensures)) c.report.ensures.told
+    (subst (λ k. CausedByFindRequest k input out c.put_help.result) (sym (ap request_of (sym c.asked.ensures) ∙ sym c.request_of.ensures ∙ c.in-Some-Help.is ∙ ap (λ (r : Request). Some r) c.in-Some-Help.field-0-is)) (record { bytes = refl; no_fault = refl }, c.put_help.ensures.caused)) c.report.ensures.told
 
-pub returns-in-None : goal.returns-in-None
-returns-in-None g c =
+pub returns-in-None-clause-promises : goal.returns-in-None-clause-promises
+returns-in-None-clause-promises g c =
     let left = g.S.Source.remaining c.args.input.now in
     let read = g.S.Source.fault_count c.args.input.now in
     let held = g.K.Sink.contents c.args.out.now in
@@ -65,3 +67,23 @@ returns-in-None g c =
     promises_of (asked (map string_bytes c.args.arguments.now)) input out (change_of (shown e) (shown f) (failed e) (failed f)) usage c.report-in-None.result c.report-in-None.ensures.status
     (subst (λ k. CausedByFindRequest k input out usage) (sym (ap request_of (sym c.asked.ensures) ∙ sym c.request_of.ensures ∙ c.in-None.is))
     (refl, record { bytes = refl; no_fault = refl }, record { bytes = refl; no_fault = refl })) c.report-in-None.ensures.told
+
+pub returns-in-Some-Search-clause-handed_on : goal.returns-in-Some-Search-clause-handed_on
+returns-in-Some-Search-clause-handed_on g c =
+    let held = g.K.Sink.held_back in
+    let o = c.args.out.now in
+    let p = c.seek_watched-ended.new.out in
+    subst (λ (n : ℕ). IsHandedOn n (held o) (held p)) (sym c.report-in-Some-Search.ensures.status) (handed_at_end c.seek_watched-ended.result (held o) (held p) c.seek_watched-ended.ensures.leaves)
+
+pub returns-in-Some-Help-clause-handed_on : goal.returns-in-Some-Help-clause-handed_on
+returns-in-Some-Help-clause-handed_on g c =
+    let held = g.K.Sink.held_back in
+    let o = c.args.out.now in
+    let p = c.put_help.new.out in
+    subst (λ (n : ℕ). IsHandedOn n (held o) (held p)) (sym c.report.ensures.status) (handed_at_end c.put_help.result (held o) (held p) c.put_help.ensures.leaves)
+
+pub returns-in-None-clause-handed_on : goal.returns-in-None-clause-handed_on
+returns-in-None-clause-handed_on g c =
+    let held = g.K.Sink.held_back c.args.out.now in
+    let usage : Result Verdict Answer = Err Usage in
+    subst (λ (n : ℕ). IsHandedOn n held held) (sym c.report-in-None.ensures.status) (handed_at_end usage held held (inl refl))

@@ -5,6 +5,7 @@ use Rattle.sd_program.specs.declared.forms.Mode.{Mode}
 use Rattle.sd_program.specs.RunAnswers.{IsLong}
 use Rattle.sd_program.specs.TheRun.{IsTheRun}
 use Rattle.sd_program.proofs.TopLemmas.{stopped_of, ran_exit}
+use Rattle.sd_answers.proofs.HandingLemmas.{leaves_exit, leaves_stopped}
 use Rattle.sd_program.proofs.running.run_work.Goals as goal
 
 pub run_in_rounds-requires : goal.run_in_rounds-requires
@@ -28,3 +29,9 @@ put_finished-requires-clause-run g c =
 
 pub returns-clause-ran : goal.returns-clause-ran
 returns-clause-ran g c = c.put_finished.ensures.ran
+
+pub returns-in_err-run-clause-leaves : goal.returns-in_err-run-clause-leaves
+returns-in_err-run-clause-leaves g c =
+    let held = g.K.Sink.held_back c.args.out.now in
+    let reason = c.in_err-run.field-0.0 in
+    leaves_exit c.from_residual.result (stop_answer reason) held held c.from_residual.ensures.1 (leaves_stopped reason held)

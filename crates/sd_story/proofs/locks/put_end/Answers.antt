@@ -4,4 +4,4 @@ use Rattle.sd_story.proofs.locks.put_end.Goals as goal
 
 pub returns : goal.returns
 unfolding end_sentence
-returns c = append_three c.put_end_words.result _ _ _ _ _ _ _ c.in_ok-put_words.ensures c.in_ok-put_lock.ensures c.put_end_words.ensures
+returns g c = append_three c.put_end_words.result _ _ _ _ _ _ _ c.in_ok-put_words.ensures c.in_ok-put_lock.ensures c.put_end_words.ensures

@@ -4,4 +4,4 @@ use Rattle.sd_story.proofs.requests.put_age.Goals as goal
 
 pub returns : goal.returns
 unfolding age_sentence
-returns c = append_two c.put_change_of.result _ _ _ _ _ c.in_ok-put_thread.ensures c.put_change_of.ensures
+returns g c = append_two c.put_change_of.result _ _ _ _ _ c.in_ok-put_thread.ensures c.put_change_of.ensures

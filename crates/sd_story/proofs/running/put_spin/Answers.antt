@@ -4,4 +4,4 @@ use Rattle.sd_story.proofs.running.put_spin.Goals as goal
 
 pub returns : goal.returns
 unfolding spin_sentence
-returns c = append_three c.put_reason.result _ _ _ _ _ _ _ c.in_ok-put_thread.ensures c.in_ok-put_lock.ensures c.put_reason.ensures
+returns g c = append_three c.put_reason.result _ _ _ _ _ _ _ c.in_ok-put_thread.ensures c.in_ok-put_lock.ensures c.put_reason.ensures

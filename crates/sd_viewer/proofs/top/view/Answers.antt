@@ -1,14 +1,16 @@
-use Rattle.std.proofs.Common.{Some, map, refl, sym, ap, subst, ◌∙◌}
+use Rattle.std.proofs.Common.{ℕ, Some, map, refl, sym, ap, subst, ◌∙◌, inl}
+use Rattle.sd_answers.specs.Handing.{IsHandedOn}
 use Rattle.std.specs.Prelude.{string_bytes}
 use Rattle.sd_answers.specs.declared.answers.Answer.TheVariants.{Usage}
 use Rattle.sd_answers.specs.StreamChanges.{change_of}
 use Rattle.sd_viewer.specs.Viewing.{CausedByViewRequest, answer_line, viewed_answer, viewed_line}
 use Rattle.sd_viewer.specs.declared.forms.Request.{Request}
 use Rattle.sd_viewer.proofs.ViewLemmas.{helped-ends, promises_of, said-ends}
+use Rattle.sd_answers.proofs.HandingLemmas.{handed_of}
 use Rattle.sd_viewer.proofs.top.view.Goals as goal
 
-pub returns-in-Some-Draw : goal.returns-in-Some-Draw
-returns-in-Some-Draw g c =
+pub returns-in-Some-Draw-clause-promises : goal.returns-in-Some-Draw-clause-promises
+returns-in-Some-Draw-clause-promises g c =
     let left = g.S.Source.remaining in
     let read = g.S.Source.fault_count in
     let held = g.K.Sink.contents in
@@ -26,10 +28,10 @@ returns-in-Some-Draw g c =
     let answer = viewed_answer c.view_input.result in
     let line = viewed_line c.view_input.result in
     promises_of (map string_bytes c.args.arguments.now) input out (change_of (shown e) (shown f) (failed e) (failed f)) answer line c.tell-in-Some-Draw.result c.tell-in-Some-Draw.ensures.status
-    (subst (λ k. CausedByViewRequest k input out answer line) (sym (sym c.request_of.ensures ∙ c.in-Some-Draw.is ∙ ap (λ (r : Request). Some r) c.in-Some-Draw.field-0-is)) c.view_input.ensures) c.tell-in-Some-Draw.ensures.told
+    (subst (λ k. CausedByViewRequest k input out answer line) (sym (sym c.request_of.ensures ∙ c.in-Some-Draw.is ∙ ap (λ (r : Request). Some r) c.in-Some-Draw.field-0-is)) c.view_input.ensures.caused) c.tell-in-Some-Draw.ensures.told
 
-pub returns-in-None : goal.returns-in-None
-returns-in-None g c =
+pub returns-in-None-clause-promises : goal.returns-in-None-clause-promises
+returns-in-None-clause-promises g c =
     let left = g.S.Source.remaining c.args.input.now in
     let read = g.S.Source.fault_count c.args.input.now in
     let held = g.K.Sink.contents c.args.out.now in
@@ -57,4 +59,23 @@ tell-requires-in-Some-Draw g c =
     let j = c.view_input.new.input in
     let o = c.args.out.now in
     let p = c.view_input.new.out in
-    said-ends c.in-Some-Draw.drawing (change_of (left i) (left j) (read i) (read j)) (change_of (held o) (held p) (written o) (written p)) c.view_input.result c.view_input.ensures
+    said-ends c.in-Some-Draw.drawing (change_of (left i) (left j) (read i) (read j)) (change_of (held o) (held p) (written o) (written p)) c.view_input.result c.view_input.ensures.caused
+
+pub returns-in-Some-Draw-clause-handed_on : goal.returns-in-Some-Draw-clause-handed_on
+returns-in-Some-Draw-clause-handed_on g c =
+    let held = g.K.Sink.held_back in
+    let o = c.args.out.now in
+    let p = c.view_input.new.out in
+    subst (λ (n : ℕ). IsHandedOn n (held o) (held p)) (sym c.tell-in-Some-Draw.ensures.status) (handed_of (viewed_answer c.view_input.result) (held o) (held p) c.view_input.ensures.leaves)
+
+pub returns-in-Some-Help-clause-handed_on : goal.returns-in-Some-Help-clause-handed_on
+returns-in-Some-Help-clause-handed_on g c =
+    let held = g.K.Sink.held_back in
+    let o = c.args.out.now in
+    let p = c.put_help.new.out in
+    subst (λ (n : ℕ). IsHandedOn n (held o) (held p)) (sym c.tell.ensures.status) (handed_of (viewed_answer c.put_help.result) (held o) (held p) c.put_help.ensures.leaves)
+
+pub returns-in-None-clause-handed_on : goal.returns-in-None-clause-handed_on
+returns-in-None-clause-handed_on g c =
+    let held = g.K.Sink.held_back c.args.out.now in
+    subst (λ (n : ℕ). IsHandedOn n held held) (sym c.tell-in-None.ensures.status) (handed_of Usage held held (inl refl))

@@ -1,0 +1,15 @@
+use Rattle.std.proofs.Common.{length}
+use Rattle.sd_store.specs.Parts.{cpu_part}
+use Rattle.sd_world.specs.Plain.{told}
+use Rattle.sd_world.proofs.PlainLemmas.{shown}
+use Rattle.sd_homes_replay.proofs.LookLemmas.{cpu_in, not_lacking}
+use Rattle.sd_homes_replay.proofs.looks.runner_of.Goals as goal
+
+pub unreachable-requires : goal.unreachable-requires
+unreachable-requires c = not_lacking c.args.work.now c.args.world.now c.requires.stands (cpu_part c.args.c) (cpu_in c.args.work.now c.args.world.now c.requires.stands c.args.c c.requires.cpu) c.in-Err.field-0 c.in-Err.ensures.lack
+
+pub returns : goal.returns
+returns c =
+    let w = c.args.work.now in
+    let x = c.args.world.now in
+    c.in-Ok.ensures.value (length x.entries.items) (told w x) (shown w x c.requires.stands)

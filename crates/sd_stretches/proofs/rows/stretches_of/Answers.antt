@@ -1,0 +1,20 @@
+use Rattle.std.proofs.Common.{◌≡◌, [], ◌∷◌, refl, ap, sym, ◌∙◌}
+use Rattle.sd_stretches.specs.Rows.{next_of, stretch_to, stretches, stretches_of}
+use Rattle.sd_stretches.proofs.RowLemmas.{found_all, found_more}
+use Rattle.sd_stretches.proofs.rows.stretches_of.Goals as goal
+
+pub loop-x-init : goal.loop-x-init
+loop-x-init c = rw c.new-found.ensures.items refl
+
+pub loop-x-preserved : goal.loop-x-preserved
+unfolding stretches_of
+loop-x-preserved c =
+    let now : c.loop-x.left.now ≡ c.in-Some.x.now ∷ c.in-Some.rest.now = (rw c.in-Some.is at c.split_first.ensures.cases).0 in
+    let made : c.stretch_to.result ≡ stretch_to c.args.entries c.args.end c.in-Some.x.now (next_of c.in-Some.rest.now) = c.stretch_to.ensures ∙ ap (stretch_to c.args.entries c.args.end c.in-Some.x.now) c.first_onset.ensures in
+    found_more (stretches_of c.args.entries c.args.end) c.loop-x.left.now c.in-Some.rest.now c.in-Some.x.now (c.stretch_to.result ∷ []) c.loop-x.found.items _ _
+    (ap (λ y. y ∷ stretches_of c.args.entries c.args.end c.in-Some.rest.now) (sym made)) now c.loop-x.invariant c.in_ok-push.ensures.items
+
+pub returns : goal.returns
+unfolding stretches_of
+returns c =
+    found_all (stretches_of c.args.entries c.args.end) c.loop-x.left.now c.loop-x.found.items _ refl c.in_default.ensures.cases c.loop-x.invariant
