@@ -3,6 +3,7 @@ pub mod DeedLemmas
 pub mod Follow
 pub mod JobLemmas
 pub mod Local
+pub mod NextLemmas
 pub mod SpanLemmas
 pub mod Steps
 pub mod Sums

@@ -7,6 +7,7 @@ pub mod Inherited
 pub mod Jobs
 pub mod Laws
 pub mod Locks
+pub mod Nexts
 pub mod Rows
 pub mod Spans
 pub mod Threads

@@ -9,6 +9,7 @@ mod delays;
 mod inherited;
 mod jobs;
 mod locks;
+mod nexts;
 mod rows;
 mod slice_laws;
 mod spans;

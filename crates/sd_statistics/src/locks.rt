@@ -4,11 +4,13 @@
 
 ghost use Rattle.std.specs.Prelude.{◌≡◌, ◌++◌, ◌∷◌, [], IfOk, OnOk, filter};
 ghost use Rattle.sd_statistics.specs.Locks.{all_pieces, contended_of, gives, giving, hand_overs, held_rows, hold_by, hold_to, holds_of, is_about, is_lock, lock_count, lock_entries, lock_of, lock_part, lock_row, lock_rows, taking, trying, wait_by, wait_rows, wait_to, wants};
+ghost use Rattle.sd_statistics.specs.Nexts.{AreNexts};
 ghost use Rattle.sd_stretches.specs.Rows.{next_of};
 ghost use Rattle.sd_stretches.specs.SpinPieces.{pieces};
 ghost use Rattle.sd_stretches.specs.declared.spin_pieces.Track.TheVariants as track;
 
 use crate::activities::{Activity, spans_of};
+use crate::nexts::{no_nexts, note};
 use crate::rows::{Measure, Row, Subject, all_of, count_figures, push_row};
 use crate::spans::{Span, state_after, summary_of};
 use sd_stretches::{ByThread, HandOver, Happening, Stretch, Track, is_that_thread, pieces};
@@ -99,8 +101,7 @@ fn gives(t: ThreadId, x: &Happening) -> bool
     is_that_thread(t, giving(&x.event))
 }
 
-// The first entry by which the thread gives the lock up.
-fn next_giving(t: ThreadId, rest: &[Happening]) -> Option<Happening>
+fn first_giving(t: ThreadId, rest: &[Happening]) -> Option<Happening>
     ensures { result ≡ next_of (filter (gives t) rest.now) }
 {
     for x in rest {
@@ -109,6 +110,17 @@ fn next_giving(t: ThreadId, rest: &[Happening]) -> Option<Happening>
         }
     }
     None
+}
+
+// The first entry by which the thread gives the lock up, as it was noted.
+fn next_giving(t: ThreadId, rest: &[Happening], nexts: &[Option<Happening>]) -> Option<Happening>
+    requires { AreNexts (λ u. next_of (filter (gives u) rest.now)) nexts.now }
+    ensures { result ≡ next_of (filter (gives t) rest.now) }
+{
+    match nexts.get(t.0 as usize) {
+        Some(next) => *next,
+        None => first_giving(t, rest),
+    }
 }
 
 fn hold_to(entries: u64, end: u32, x: &Happening, t: ThreadId, next: Option<Happening>) -> Span
@@ -133,32 +145,39 @@ fn push_hold(
     end: u32,
     x: &Happening,
     rest: &[Happening],
+    nexts: &[Option<Happening>],
     out: &mut Vec<Span>,
 ) -> Result<(), AllocError>
+    requires { AreNexts (λ u. next_of (filter (gives u) rest.now)) nexts.now }
     ensures { OnOk result (out.new.items ≡ out.old.items ++ hold_by entries end x.now rest.now (taking x.now.event)) }
 {
     if let Some(t) = taking(&x.event) {
-        out.push(hold_to(entries, end, x, t, next_giving(t, rest)))?;
+        out.push(hold_to(entries, end, x, t, next_giving(t, rest, nexts)))?;
     }
     Ok(())
 }
 
-// Who holds the lock from when to when, from its entries.
+// Who holds the lock from when to when, from its entries, the last first.
 #[tactic(auto, unfolding(crate::specs::Locks::holds_of))]
 fn holds_of(
     alloc: Global,
     entries: u64,
     end: u32,
+    threads: usize,
     own: &[Happening],
 ) -> Result<Vec<Span>, AllocError>
     ensures { IfOk result (λ v. v.items ≡ holds_of entries end own.now) }
 {
+    let mut nexts = no_nexts(alloc, threads)?;
     let mut found = Vec::new(alloc);
-    let mut left = own;
-    while let Some((x, rest)) = left.split_first() {
-        push_hold(entries, end, x, rest, &mut found)?;
-        left = rest;
+    let mut i = own.len();
+    while i > 0 {
+        i -= 1;
+        let x = own[i];
+        push_hold(entries, end, &x, &own[i + 1..], &nexts, &mut found)?;
+        note(giving(&x.event), &x, &mut nexts);
     }
+    found.reverse();
     Ok(found)
 }
 
@@ -168,8 +187,7 @@ fn wants(t: ThreadId, x: &Happening) -> bool
     is_that_thread(t, taking(&x.event)) || is_that_thread(t, trying(&x.event))
 }
 
-// The first entry by which the thread takes the lock, or spins or begins to wait for it.
-fn next_wanting(t: ThreadId, rest: &[Happening]) -> Option<Happening>
+fn first_wanting(t: ThreadId, rest: &[Happening]) -> Option<Happening>
     ensures { result ≡ next_of (filter (wants t) rest.now) }
 {
     for x in rest {
@@ -178,6 +196,17 @@ fn next_wanting(t: ThreadId, rest: &[Happening]) -> Option<Happening>
         }
     }
     None
+}
+
+// The first entry by which the thread takes the lock, or spins or begins to wait for it, as it was noted.
+fn next_wanting(t: ThreadId, rest: &[Happening], nexts: &[Option<Happening>]) -> Option<Happening>
+    requires { AreNexts (λ u. next_of (filter (wants u) rest.now)) nexts.now }
+    ensures { result ≡ next_of (filter (wants t) rest.now) }
+{
+    match nexts.get(t.0 as usize) {
+        Some(next) => *next,
+        None => first_wanting(t, rest),
+    }
 }
 
 fn push_wait_to(
@@ -204,26 +233,37 @@ fn push_wait_to(
 }
 
 // From the entry, where it finds the lock taken, up to the one by which the thread takes it, where this is its next of the lock.
-fn push_wait(x: &Happening, rest: &[Happening], out: &mut Vec<Span>) -> Result<(), AllocError>
+fn push_wait(
+    x: &Happening,
+    rest: &[Happening],
+    nexts: &[Option<Happening>],
+    out: &mut Vec<Span>,
+) -> Result<(), AllocError>
+    requires { AreNexts (λ u. next_of (filter (wants u) rest.now)) nexts.now }
     ensures { OnOk result (out.new.items ≡ out.old.items ++ wait_by x.now rest.now (trying x.now.event)) }
 {
     match trying(&x.event) {
-        Some(t) => push_wait_to(x, t, next_wanting(t, rest), out),
+        Some(t) => push_wait_to(x, t, next_wanting(t, rest, nexts), out),
         None => Ok(()),
     }
 }
 
-// One for each contended taking, from the entries of one lock.
+// One for each contended taking, from the entries of one lock, the last first.
 #[tactic(auto, unfolding(crate::specs::Locks::contended_of))]
-fn contended_of(alloc: Global, own: &[Happening]) -> Result<Vec<Span>, AllocError>
+fn contended_of(alloc: Global, threads: usize, own: &[Happening]) -> Result<Vec<Span>, AllocError>
     ensures { IfOk result (λ v. v.items ≡ contended_of own.now) }
 {
+    let mut nexts = no_nexts(alloc, threads)?;
     let mut found = Vec::new(alloc);
-    let mut left = own;
-    while let Some((x, rest)) = left.split_first() {
-        push_wait(x, rest, &mut found)?;
-        left = rest;
+    let mut i = own.len();
+    while i > 0 {
+        i -= 1;
+        let x = own[i];
+        push_wait(&x, &own[i + 1..], &nexts, &mut found)?;
+        note(taking(&x.event), &x, &mut nexts);
+        note(trying(&x.event), &x, &mut nexts);
     }
+    found.reverse();
     Ok(found)
 }
 
@@ -270,9 +310,10 @@ fn push_held(
 ) -> Result<(), AllocError>
     ensures { OnOk result (out.new.items ≡ out.old.items ++ held_rows work.now entries l own.now) }
 {
-    let holds = holds_of(alloc, entries, work.limit, own)?;
+    let threads = work.threads.items().len();
+    let holds = holds_of(alloc, entries, work.limit, threads, own)?;
     push_spans(l, Measure::Held, &holds, out)?;
-    let contended = contended_of(alloc, own)?;
+    let contended = contended_of(alloc, threads, own)?;
     push_count(l, Measure::Contended, contended.len(), out)
 }
 

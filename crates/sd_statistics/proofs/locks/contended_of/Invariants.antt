@@ -1,9 +1,14 @@
-use Rattle.std.proofs.Common.{◌≡◌, ◌++◌, length}
-use Rattle.sd_statistics.specs.Locks.{contended_of}
+use Rattle.std.proofs.Common.{◌≡◌, ◌≤◌, length, drop, reverse}
+use Rattle.std.specs.Prelude.{filter}
+use Rattle.sd_stretches.specs.Rows.{next_of}
+use Rattle.sd_statistics.specs.Locks.{contended_of, wants}
+use Rattle.sd_statistics.specs.Nexts.{AreNexts}
 use Rattle.sd_statistics.proofs.locks.contended_of.Given as goal
 
-abbrev pub invariant-loop-x : goal.invariant-loop-x
-invariant-loop-x l = l.found.items ++ contended_of l.left ≡ contended_of l.own
+abbrev pub invariant-loop-i : goal.invariant-loop-i
+invariant-loop-i l =
+    (l.i ≤ length l.own) × (reverse l.found.items ≡ contended_of (drop l.i l.own))
+    × AreNexts (λ t. next_of (filter (wants t) (drop l.i l.own))) l.nexts.items
 
-abbrev pub decreases-loop-x : goal.decreases-loop-x
-decreases-loop-x l = length l.left
+abbrev pub decreases-loop-i : goal.decreases-loop-i
+decreases-loop-i l = l.i

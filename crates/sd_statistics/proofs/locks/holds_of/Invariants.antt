@@ -1,9 +1,14 @@
-use Rattle.std.proofs.Common.{◌≡◌, ◌++◌, length}
-use Rattle.sd_statistics.specs.Locks.{holds_of}
+use Rattle.std.proofs.Common.{◌≡◌, ◌≤◌, length, drop, reverse}
+use Rattle.std.specs.Prelude.{filter}
+use Rattle.sd_stretches.specs.Rows.{next_of}
+use Rattle.sd_statistics.specs.Locks.{gives, holds_of}
+use Rattle.sd_statistics.specs.Nexts.{AreNexts}
 use Rattle.sd_statistics.proofs.locks.holds_of.Given as goal
 
-abbrev pub invariant-loop-x : goal.invariant-loop-x
-invariant-loop-x l = l.found.items ++ holds_of l.entries l.end l.left ≡ holds_of l.entries l.end l.own
+abbrev pub invariant-loop-i : goal.invariant-loop-i
+invariant-loop-i l =
+    (l.i ≤ length l.own) × (reverse l.found.items ≡ holds_of l.entries l.end (drop l.i l.own))
+    × AreNexts (λ t. next_of (filter (gives t) (drop l.i l.own))) l.nexts.items
 
-abbrev pub decreases-loop-x : goal.decreases-loop-x
-decreases-loop-x l = length l.left
+abbrev pub decreases-loop-i : goal.decreases-loop-i
+decreases-loop-i l = l.i

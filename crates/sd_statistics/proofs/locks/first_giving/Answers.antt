@@ -1,7 +1,7 @@
 use Rattle.std.proofs.Common.{sym, ◌∙◌}
 use Rattle.sd_stretches.proofs.RowLemmas.{first_passes}
 use Rattle.sd_statistics.specs.Locks.{gives}
-use Rattle.sd_statistics.proofs.locks.next_giving.Goals as goal
+use Rattle.sd_statistics.proofs.locks.first_giving.Goals as goal
 
 pub returns-then-gives : goal.returns-then-gives
 returns-then-gives c =

@@ -1,7 +1,7 @@
 use Rattle.std.proofs.Common.{sym, ◌∙◌}
 use Rattle.sd_stretches.proofs.RowLemmas.{first_passes}
 use Rattle.sd_statistics.specs.Locks.{wants}
-use Rattle.sd_statistics.proofs.locks.next_wanting.Goals as goal
+use Rattle.sd_statistics.proofs.locks.first_wanting.Goals as goal
 
 pub returns-then-wants : goal.returns-then-wants
 returns-then-wants c =
