@@ -1,38 +1,17 @@
 -- Which entries of a run are told.
 -- Source: this project's own.
-use Rattle.std.specs.Prelude.{ℕ, Bool, false, ◌&&◌, ◌||◌, nat_le, List, [], ◌∷◌, Option, Some, None, option_map}
+use Rattle.std.specs.Prelude.{ℕ, Bool, false, ◌&&◌, ◌||◌, nat_le, List, Option, Some, None}
 use Rattle.std.specs.List.{list_any}
 use Rattle.sd_types.specs.Works.{same_bytes}
 use Rattle.sd_types.specs.declared.numbers.ThreadId.{ThreadId}
-use Rattle.sd_types.specs.declared.events.Event.{Event}
-use Rattle.sd_types.specs.declared.events.Event.TheVariants.{Wake, Prio, SemaVWake, Bind}
 use Rattle.sd_types.specs.declared.events.Entry.{Entry}
 use Rattle.sd_types.specs.declared.works.Work.{Work}
 use Rattle.sd_state.specs.declared.states.State.{State}
 use Rattle.sd_state.specs.States.{cpu_of}
 use Rattle.sd_state.specs.Texts.{thread_name}
-use Rattle.sd_machine.specs.Names.{Name, names, OfThread, Whom}
+use Rattle.sd_stretches.specs.Named.{first_named, second_named}
 use Rattle.sd_story.specs.declared.selections.Selection.{Selection}
 use Rattle.sd_story.specs.declared.selections.Selection.TheVariants.{Ticks, Thread}
-
--- of names, the first thread
-abbrev pub first_thread : List Name → Option ThreadId
-first_thread [] = None
-first_thread (OfThread t ∷ xs) = Some t
-first_thread (Whom u ∷ xs) = option_map (λ x. x.0) u
-first_thread (x ∷ xs) = first_thread xs
-
--- the thread that an event names first: the acting one, or one that a processor moves
-abbrev pub first_named : Event → Option ThreadId
-first_named e = first_thread (names e).1
-
--- the thread that it names beside it
-abbrev pub second_named : Event → Option ThreadId
-second_named (Wake t k u) = option_map (λ x. x.0) u
-second_named (Prio t u answer) = Some u
-second_named (SemaVWake t k u at) = Some u
-second_named (Bind t u d answer) = Some u
-second_named _ = None
 
 abbrev pub is_named : Work → List ℕ → Option ThreadId → Bool
 is_named w name None = false

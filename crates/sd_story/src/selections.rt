@@ -1,14 +1,15 @@
 //! Which entries of a run are told.
 
-ghost use Rattle.std.specs.Prelude.{◌≡◌, ◌&&◌, ◌||◌, nat_le, option_map};
+ghost use Rattle.std.specs.Prelude.{◌≡◌, ◌&&◌, ◌||◌, nat_le};
 ghost use Rattle.sd_types.specs.Works.{same_bytes};
 ghost use Rattle.sd_state.specs.States.{cpu_of};
-ghost use Rattle.sd_story.specs.Selections.{first_named, has_thread, is_named, is_told, second_named, tick_of};
+ghost use Rattle.sd_stretches.specs.Named.{first_named, second_named};
+ghost use Rattle.sd_story.specs.Selections.{has_thread, is_named, is_told, tick_of};
 
 use crate::scene::Scene;
 use arrayvec::ArrayVec;
-use sd_stretches::thread_name;
-use sd_types::{Entry, Event, Put, ThreadDecl, ThreadId, Work};
+use sd_stretches::{first_named, second_named, thread_name};
+use sd_types::{Entry, Event, ThreadDecl, ThreadId, Work};
 
 /// Which entries are told: those that are made at a tick from `from` to `to`, where the tick of an entry is the count of its
 /// processor before it; or those that name a thread.
@@ -16,72 +17,6 @@ use sd_types::{Entry, Event, Put, ThreadDecl, ThreadId, Work};
 pub enum Selection {
     Ticks { from: u32, to: u32 },
     Thread { name: ArrayVec<u8, 16> },
-}
-
-fn woken_thread(woken: Option<(ThreadId, Put)>) -> Option<ThreadId>
-    ensures { result ≡ option_map (λ x. x.0) woken }
-{
-    match woken {
-        Some((u, _)) => Some(u),
-        None => None,
-    }
-}
-
-// The thread that an event names first: the acting one, or one that a processor moves.
-fn first_named(event: &Event) -> Option<ThreadId>
-    ensures { result ≡ first_named event.now }
-{
-    match *event {
-        Event::Tick { t } => Some(t),
-        Event::Spin { t, .. } => Some(t),
-        Event::Idle => None,
-        Event::Dispatch { t, .. } => Some(t),
-        Event::Steal { t, .. } => Some(t),
-        Event::Preempt { t, .. } => Some(t),
-        Event::Away { t, .. } => Some(t),
-        Event::Yield { t } => Some(t),
-        Event::Done { t } => Some(t),
-        Event::Nap { t } => Some(t),
-        Event::Napend { t, .. } => Some(t),
-        Event::Sleep { t, .. } => Some(t),
-        Event::Wake { t, .. } => Some(t),
-        Event::Wakeall { t, .. } => Some(t),
-        Event::Rouse { woken, .. } => woken_thread(woken),
-        Event::Enter { t, .. } => Some(t),
-        Event::Read { t, .. } => Some(t),
-        Event::Write { t, .. } => Some(t),
-        Event::Block { t, .. } => Some(t),
-        Event::Will { o, .. } => Some(o),
-        Event::End { .. } => None,
-        Event::Exit { t, .. } => Some(t),
-        Event::Unblock { u, .. } => Some(u),
-        Event::Grant { u, .. } => Some(u),
-        Event::Passed { .. } => None,
-        Event::Age { t, .. } => Some(t),
-        Event::Prio { t, .. } => Some(t),
-        Event::CvWait { t, .. } => Some(t),
-        Event::SemaP { t, .. } => Some(t),
-        Event::SemaWait { t, .. } => Some(t),
-        Event::SemaVWake { t, .. } => Some(t),
-        Event::SemaVCount { t, .. } => Some(t),
-        Event::Assign { t, .. } => Some(t),
-        Event::Move { t, .. } => Some(t),
-        Event::Joined { .. } => None,
-        Event::Bind { t, .. } => Some(t),
-    }
-}
-
-// The thread that it names beside it.
-fn second_named(event: &Event) -> Option<ThreadId>
-    ensures { result ≡ second_named event.now }
-{
-    match *event {
-        Event::Wake { woken, .. } => woken_thread(woken),
-        Event::Prio { u, .. } => Some(u),
-        Event::SemaVWake { u, .. } => Some(u),
-        Event::Bind { u, .. } => Some(u),
-        _ => None,
-    }
 }
 
 fn is_same(name: &[u8], other: &[u8]) -> bool

@@ -3,6 +3,7 @@ pub mod Changes
 pub mod Doings
 pub mod Exact
 pub mod Histories
+pub mod Named
 pub mod Order
 pub mod Parted
 pub mod Plain

@@ -4,7 +4,6 @@
 
 ghost use Rattle.std.specs.Prelude.{◌≡◌, ◌++◌, OnOk, slice_get, None, Some};
 ghost use Rattle.sd_state.specs.States.{cpu_of};
-ghost use Rattle.sd_frames.specs.Altered.{altered};
 ghost use Rattle.sd_stretches.specs.Altered.{last_count, load_by_sight, one_moved, with_sight};
 ghost use Rattle.sd_stretches.specs.Changes.{giver, giver_of, hand_over_of, hand_overs_of, happening_of, happenings_of, is_above_base, is_giver, is_inherited, is_priority, is_that_thread, load_if, owner_of, rank_if, ranks_between, onset_if, onsets_between, wakeup_of, wakeups_of, wanted_lock, woken_by, waker_of};
 
@@ -261,55 +260,6 @@ pub(crate) fn set_sight(sights: &mut [Sight], t: usize, new: Option<Sight>)
         if t < sights.len() {
             sights[t] = x;
         }
-    }
-}
-
-fn index_of(t: ThreadId) -> Option<usize>
-    ensures { result ≡ Some t.0 }
-{
-    Some(t.0 as usize)
-}
-
-/// The thread that an event may alter: its place, its class state or the priorities that it inherits.
-pub(crate) fn altered(event: &Event) -> Option<usize>
-    ensures { result ≡ altered event.now }
-{
-    match *event {
-        Event::Idle
-        | Event::Wakeall { .. }
-        | Event::Enter { .. }
-        | Event::Read { .. }
-        | Event::Write { .. }
-        | Event::End { .. }
-        | Event::Passed { .. }
-        | Event::SemaP { .. }
-        | Event::SemaVCount { .. }
-        | Event::Assign { .. }
-        | Event::Joined { .. } => None,
-        Event::Tick { t }
-        | Event::Spin { t, .. }
-        | Event::Dispatch { t, .. }
-        | Event::Steal { t, .. }
-        | Event::Preempt { t, .. }
-        | Event::Away { t, .. }
-        | Event::Yield { t }
-        | Event::Done { t }
-        | Event::Nap { t }
-        | Event::Napend { t, .. }
-        | Event::Sleep { t, .. }
-        | Event::Block { t, .. }
-        | Event::Exit { t, .. }
-        | Event::Age { t, .. }
-        | Event::CvWait { t, .. }
-        | Event::SemaWait { t, .. }
-        | Event::Move { t, .. } => index_of(t),
-        Event::Will { o, .. } => index_of(o),
-        Event::Unblock { u, .. }
-        | Event::Grant { u, .. }
-        | Event::Prio { u, .. }
-        | Event::SemaVWake { u, .. }
-        | Event::Bind { u, .. } => index_of(u),
-        Event::Wake { woken, .. } | Event::Rouse { woken, .. } => index_of(woken?.0),
     }
 }
 

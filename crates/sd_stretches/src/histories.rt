@@ -11,10 +11,11 @@ ghost use Rattle.sd_stretches.specs.Histories.{IsHistory};
 ghost use Rattle.sd_stretches.specs.Sights.{sights_of};
 
 use crate::changes::{
-    HandOver, Happening, Load, Onset, Rank, Wakeup, altered, count_of, push_hand_over,
-    push_happening, push_load, push_load_by, push_onset, push_onsets, push_rank, push_ranks,
-    push_wakeup, set_sight, sight_at,
+    HandOver, Happening, Load, Onset, Rank, Wakeup, count_of, push_hand_over, push_happening,
+    push_load, push_load_by, push_onset, push_onsets, push_rank, push_ranks, push_wakeup,
+    set_sight, sight_at,
 };
+use crate::named::altered;
 use crate::sights::{Sight, sight_in, sights_of};
 use sd_state::State;
 use sd_types::{Entry, Work};

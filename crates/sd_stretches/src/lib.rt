@@ -9,6 +9,7 @@ mod doings;
 mod histories;
 mod label_laws;
 mod laws;
+mod named;
 mod names;
 mod rows;
 mod sights;
@@ -23,6 +24,7 @@ pub use laws::{
     events_alter_one_sight, pieces_fill_stretches, slices_are_exact, stretches_are_exact,
     stretches_stand_in_order,
 };
+pub use named::{first_named, second_named};
 pub use names::{chan_name, lock_name, set_name, short_name, thread_name};
 pub use rows::{Level, Stretch, levels, stretches};
 pub use sights::{Doing, Sight, does_run};
