@@ -1,5 +1,6 @@
 pub mod Charged
 pub mod DeedLemmas
+pub mod DelayLemmas
 pub mod Follow
 pub mod JobLemmas
 pub mod Local

@@ -140,6 +140,20 @@ fn push_delay_row(
     )
 }
 
+// The same, by its own wakeups alone.
+fn push_delays(
+    alloc: Global,
+    history: &ByThread,
+    t: usize,
+    own: &[Stretch],
+    out: &mut Vec<Row>,
+) -> Result<(), AllocError>
+    ensures { OnOk result (out.new.items ≡ out.old.items ++ delay_row t own.now history.now.wakeups.items) }
+{
+    let wakeups = history.wakeups_of(alloc, t)?;
+    push_delay_row(alloc, t, own, &wakeups, out)
+}
+
 // The row of its inherited priority.
 fn push_inherited(t: usize, own: &[Level], out: &mut Vec<Row>) -> Result<(), AllocError>
     ensures { OnOk result (out.new.items ≡ out.old.items ++ inherited_row t own.now) }
@@ -171,7 +185,7 @@ fn push_others(
     ensures { OnOk result (out.new.items ≡ out.old.items ++ other_rows work.now history.now t) }
 {
     let own = stretches(alloc, history, t, work.limit)?;
-    push_delay_row(alloc, t, &own, &history.history.wakeups, out)?;
+    push_delays(alloc, history, t, &own, out)?;
     let own = levels(alloc, history, t, work.limit)?;
     push_inherited(t, &own, out)
 }

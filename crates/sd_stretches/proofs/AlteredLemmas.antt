@@ -9,31 +9,23 @@ use Rattle.std.proofs.Math.Seq.{get_or-append_seam}
 use Rattle.std.proofs.lemmas.List.Sums.{count_by-le-length, sum_by-set}
 use Rattle.std.proofs.lemmas.Option.{slice_get-get_or, slice_get-map, slice_get_past, unwrap_or-slice_get}
 use Rattle.sd_basics.proofs.Ranges.{flat_range_more}
-use Rattle.sd_types.specs.declared.numbers.CpuId.{CpuId}
 use Rattle.sd_types.specs.declared.events.Entry.{Entry}
-use Rattle.sd_types.specs.declared.events.Event.{Event}
 use Rattle.sd_types.specs.declared.scripts.Op.{Op}
 use Rattle.sd_types.specs.declared.works.Work.{Work}
-use Rattle.sd_state.specs.declared.states.State.{State}
 use Rattle.sd_state.specs.declared.states.ThreadState.{ThreadState}
 use Rattle.sd_state.specs.Opening.{opening}
 use Rattle.sd_state.specs.Operations.{op_over, ran}
-use Rattle.sd_state.specs.States.{no_thread, thread_of}
+use Rattle.sd_state.specs.States.{no_thread}
 use Rattle.sd_machine.specs.Events.{after}
 use Rattle.sd_machine.specs.Runs.{final, state_at}
-use Rattle.sd_machine.proofs.OpeningLemmas.{opening_fits}
-use Rattle.sd_machine.proofs.RunLemmas.{final_fits}
 use Rattle.sd_machine.proofs.ShapeLemmas.{after_shape}
-use Rattle.sd_frames.specs.Altered.{altered}
 use Rattle.sd_frames.proofs.Altering.{after_but}
 use Rattle.sd_stretches.specs.declared.changes.Load.{Load}
-use Rattle.sd_stretches.specs.declared.changes.Onset.{Onset}
-use Rattle.sd_stretches.specs.declared.changes.Rank.{Rank}
 use Rattle.sd_stretches.specs.declared.sights.Sight.{Sight}
 use Rattle.sd_stretches.specs.Altered.{AlikeBut, EventsAlterOneSight, last_count, load_by_sight, load_count, loads_by, one_moved, onsets_by, ranks_by, sights_by, with_sight}
 use Rattle.sd_stretches.specs.Changes.{load_if, onset_if, onsets_between, rank_if, ranks_between}
-use Rattle.sd_stretches.specs.Histories.{loads_in, moment, over, sights_before, tick_by, entry_before}
-use Rattle.sd_stretches.specs.Sights.{is_runnable, runnable, same_doing, same_rank, same_truth, sight_of, sights_of}
+use Rattle.sd_stretches.specs.Histories.{loads_in, moment, over, tick_by, entry_before}
+use Rattle.sd_stretches.specs.Sights.{is_runnable, runnable, same_rank, same_truth, sight_of, sights_of}
 use Rattle.sd_stretches.proofs.ExactLemmas.{one_of, same_self}
 
 -- The law.

@@ -1,16 +1,16 @@
 -- Rows of the items of each number, and one item more.
-use Rattle.std.proofs.Common.{◌≡◌, ℕ, ◌+◌, ◌<◌, Bool, true, false, List, [], ◌∷◌, ◌++◌, length, get_or, take, refl, sym, ap, ◌∙◌, inl, inr}
+use Rattle.std.proofs.Common.{◌≡◌, ℕ, ◌+◌, ◌<◌, Bool, true, false, List, [], ◌∷◌, ◌++◌, length, get_or, take, refl, sym, ◌∙◌}
 use Rattle.std.specs.Prelude.{◌==◌, filter, if◌then◌else◌, Vec}
 use Rattle.std.specs.declared.alloc.Global.{Global}
-use Rattle.std.proofs.lemmas.Bool.{cases_Bool}
 use Rattle.std.proofs.lemmas.List.{append-nil}
 use Rattle.sd_stretches.specs.declared.changes.Happening.{Happening}
 use Rattle.sd_stretches.specs.declared.changes.Onset.{Onset}
 use Rattle.sd_stretches.specs.declared.changes.Rank.{Rank}
+use Rattle.sd_stretches.specs.declared.changes.Wakeup.{Wakeup}
 use Rattle.sd_stretches.specs.declared.spin_pieces.Spell.{Spell}
 use Rattle.sd_stretches.specs.declared.spin_pieces.Track.TheVariants.{Thread}
 use Rattle.sd_stretches.specs.Parted.{AreRows}
-use Rattle.sd_stretches.specs.Rows.{own_onsets, own_ranks}
+use Rattle.sd_stretches.specs.Rows.{own_onsets, own_ranks, own_wakeups}
 use Rattle.sd_stretches.specs.SpinPieces.{spell_by, spells_on}
 use Rattle.sd_stretches.proofs.RangeLemmas.{filter_take_more, flat_take_more}
 
@@ -37,6 +37,11 @@ pub ranks_more : (xs : List Rank) (i : ℕ) (d : Rank) (rows : List (Vec Rank Gl
     → AreRows (λ u. if (get_or xs i d).thread == u then own_ranks u (take i xs) ++ get_or xs i d ∷ [] else own_ranks u (take i xs)) rows
     → AreRows (λ u. own_ranks u (take (i + 1) xs)) rows
 ranks_more xs i d rows inside are t row is = are t row is ∙ own_more (λ (x : Rank). x.thread) t xs i d inside
+
+pub wakeups_more : (xs : List Wakeup) (i : ℕ) (d : Wakeup) (rows : List (Vec Wakeup Global)) → i < length xs
+    → AreRows (λ u. if (get_or xs i d).woken.0 == u then own_wakeups u (take i xs) ++ get_or xs i d ∷ [] else own_wakeups u (take i xs)) rows
+    → AreRows (λ u. own_wakeups u (take (i + 1) xs)) rows
+wakeups_more xs i d rows inside are t row is = are t row is ∙ own_more (λ (x : Wakeup). x.woken.0) t xs i d inside
 
 pub spells_none : (rows : List (Vec Spell Global)) → AreRows (λ t. []) rows → AreRows (λ t. spells_on (Thread t) []) rows
 unfolding spells_on

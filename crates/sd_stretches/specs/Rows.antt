@@ -5,6 +5,7 @@ use Rattle.std.specs.Prelude.{ℕ, ◌-◌, ◌==◌, List, [], ◌∷◌, filte
 use Rattle.sd_stretches.specs.Sights.{runs_on}
 use Rattle.sd_stretches.specs.declared.changes.Onset.{Onset}
 use Rattle.sd_stretches.specs.declared.changes.Rank.{Rank}
+use Rattle.sd_stretches.specs.declared.changes.Wakeup.{Wakeup}
 use Rattle.sd_stretches.specs.declared.rows.Stretch.{Stretch}
 use Rattle.sd_stretches.specs.declared.rows.Level.{Level}
 
@@ -56,6 +57,10 @@ slices c xs entries end = filter (λ x. runs_on c x.doing) (all_stretches xs ent
 
 abbrev pub own_ranks : ℕ → List Rank → List Rank
 own_ranks t xs = filter (λ x. x.thread == t) xs
+
+-- the wakeups of one thread
+abbrev pub own_wakeups : ℕ → List Wakeup → List Wakeup
+own_wakeups t xs = filter (λ x. x.woken.0 == t) xs
 
 abbrev pub level_from : Rank → ℕ → Level
 level_from x to = record { first = x.first; from = x.tick; to = to; priority = x.priority; inherited = x.inherited }

@@ -5,12 +5,12 @@ ghost use Rattle.sd_stretches.specs.declared.histories.History.{History as Histo
 ghost use Rattle.sd_stretches.specs.declared.spin_pieces.Spell.{Spell as SpellValue};
 ghost use Rattle.sd_stretches.specs.declared.spin_pieces.Track.TheVariants as track;
 ghost use Rattle.sd_stretches.specs.Parted.{ArePartsOf, AreRows, Puts};
-ghost use Rattle.sd_stretches.specs.Rows.{own_onsets as own_onsets_in, own_ranks as own_ranks_in};
+ghost use Rattle.sd_stretches.specs.Rows.{own_onsets as own_onsets_in, own_ranks as own_ranks_in, own_wakeups as own_wakeups_in};
 ghost use Rattle.sd_stretches.specs.SpinPieces.{spell_by, spells_on as spells_in};
 
-use crate::changes::{Happening, Onset, Rank};
+use crate::changes::{Happening, Onset, Rank, Wakeup};
 use crate::histories::History;
-use crate::rows::{own_onsets, own_ranks};
+use crate::rows::{own_onsets, own_ranks, own_wakeups};
 use crate::spin_pieces::{Spell, Track, spell_at, spells_on};
 use sd_types::Event;
 use std::alloc::{AllocError, Global};
@@ -23,6 +23,7 @@ pub struct ByThread {
     onsets: Vec<Vec<Onset>>,
     ranks: Vec<Vec<Rank>>,
     spells: Vec<Vec<Spell>>,
+    wakeups: Vec<Vec<Wakeup>>,
 }
 
 impl Model for ByThread {
@@ -30,7 +31,7 @@ impl Model for ByThread {
 
     ghost view = { λ f. f.history };
 
-    ghost invariant = { λ f. ArePartsOf f.history f.onsets.items f.ranks.items f.spells.items };
+    ghost invariant = { λ f. ArePartsOf f.history f.onsets.items f.ranks.items f.spells.items f.wakeups.items };
 }
 
 // A row for each of so many threads, with nothing in it.
@@ -99,6 +100,20 @@ fn spell_rows(
     Ok(rows)
 }
 
+fn wakeup_rows(
+    alloc: Global,
+    count: usize,
+    wakeups: &[Wakeup],
+) -> Result<Vec<Vec<Wakeup>>, AllocError>
+    ensures { IfOk result (λ rows. AreRows (λ t. own_wakeups_in t wakeups.now) rows.items) }
+{
+    let mut rows = no_rows(alloc, count)?;
+    for x in wakeups {
+        put(&mut rows, x.woken.0 as usize, *x)?;
+    }
+    Ok(rows)
+}
+
 impl History {
     /// The same history, with what each of its threads does apart. Takes as much memory again as what it parts.
     pub fn by_thread(self, alloc: Global) -> Result<ByThread, AllocError>
@@ -108,11 +123,13 @@ impl History {
         let onsets = onset_rows(alloc, count, &self.onsets)?;
         let ranks = rank_rows(alloc, count, &self.ranks)?;
         let spells = spell_rows(alloc, count, &self.happenings)?;
+        let wakeups = wakeup_rows(alloc, count, &self.wakeups)?;
         Ok(ByThread {
             history: self,
             onsets,
             ranks,
             spells,
+            wakeups,
         })
     }
 }
@@ -153,6 +170,16 @@ impl ByThread {
         match self.spells.get(t) {
             Some(row) => copied(alloc, row),
             None => spells_on(alloc, Track::Thread(t), &self.history.happenings),
+        }
+    }
+
+    /// The wakeups of a thread.
+    pub fn wakeups_of(&self, alloc: Global, t: usize) -> Result<Vec<Wakeup>, AllocError>
+        ensures { IfOk result (λ v. v.items ≡ own_wakeups_in t self.now.wakeups.items) }
+    {
+        match self.wakeups.get(t) {
+            Some(row) => copied(alloc, row),
+            None => own_wakeups(alloc, &self.history.wakeups, t),
         }
     }
 }

@@ -2,10 +2,10 @@
 
 ghost use Rattle.std.specs.Prelude.{◌≡◌, ◌++◌, ◌==◌, ◌∷◌, [], IfOk, OnOk, filter, if◌then◌else◌};
 ghost use Rattle.sd_stretches.specs.Sights.{runs_on};
-ghost use Rattle.sd_stretches.specs.Rows.{level_to, levels, next_of, own_ranks, own_onsets, slices, stretch_to, stretches, stretches_of};
+ghost use Rattle.sd_stretches.specs.Rows.{level_to, levels, next_of, own_ranks, own_onsets, own_wakeups, slices, stretch_to, stretches, stretches_of};
 
 use crate::by_thread::ByThread;
-use crate::changes::{Onset, Rank};
+use crate::changes::{Onset, Rank, Wakeup};
 use crate::sights::{Doing, runs_on};
 use sd_types::Class;
 use std::alloc::{AllocError, Global};
@@ -47,6 +47,30 @@ pub(crate) fn own_onsets(
     let mut own = Vec::new(alloc);
     for x in onsets {
         push_own(*x, t, &mut own)?;
+    }
+    Ok(own)
+}
+
+fn push_own_wakeup(x: Wakeup, t: usize, own: &mut Vec<Wakeup>) -> Result<(), AllocError>
+    ensures { OnOk result (own.new.items ≡ own.old.items ++ own_wakeups t (x ∷ [])) }
+{
+    if x.woken.0 as usize == t {
+        own.push(x)?;
+    }
+    Ok(())
+}
+
+// The wakeups of one thread.
+pub(crate) fn own_wakeups(
+    alloc: Global,
+    wakeups: &[Wakeup],
+    t: usize,
+) -> Result<Vec<Wakeup>, AllocError>
+    ensures { IfOk result (λ v. v.items ≡ own_wakeups t wakeups.now) }
+{
+    let mut own = Vec::new(alloc);
+    for x in wakeups {
+        push_own_wakeup(*x, t, &mut own)?;
     }
     Ok(own)
 }

@@ -1,5 +1,5 @@
 use Rattle.std.proofs.Common.{◌≡◌, [], ◌∷◌, refl, ap, sym, ◌∙◌}
-use Rattle.sd_stretches.specs.Rows.{next_of, stretch_to, stretches, stretches_of}
+use Rattle.sd_stretches.specs.Rows.{next_of, stretch_to, stretches_of}
 use Rattle.sd_stretches.proofs.RowLemmas.{found_all, found_more}
 use Rattle.sd_stretches.proofs.rows.stretches_of.Goals as goal
 
