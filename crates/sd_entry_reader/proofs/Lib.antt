@@ -1,3 +1,4 @@
 pub mod CommaLemmas
+pub mod IdleLemmas
 pub mod IndexLemmas
 pub mod PlaceLemmas

@@ -9,11 +9,12 @@ use arrayvec::ArrayVec;
 use sd_text::next_word;
 use std::marker::Model;
 
-/// The words of a line, by their places from 0. The first eleven were sought, since no entry has more. Contracts see all of them.
+/// The words of a line, by their places from 0. The first eleven were sought, since no entry has more. Contracts see all of them. The
+/// places are lent, since they are big to move.
 #[derive(Drop)]
 pub(crate) struct Words<'a> {
     line: &'a [u8],
-    places: ArrayVec<(usize, usize), 11>,
+    places: &'a [(usize, usize)],
 }
 
 impl<'a> Model for Words<'a> {
@@ -25,11 +26,11 @@ impl<'a> Model for Words<'a> {
 
     ghost view = { λ w. words_of w.line.now };
 
-    ghost invariant = { λ w. ArePlaces w.line.now w.places.items };
+    ghost invariant = { λ w. ArePlaces w.line.now w.places.now };
 }
 
-// Where the first eleven words begin and end.
-fn places_in(line: &[u8]) -> ArrayVec<(usize, usize), 11>
+/// Where the first eleven words begin and end.
+pub(crate) fn places_in(line: &[u8]) -> ArrayVec<(usize, usize), 11>
     ensures { ArePlaces line.now result.items }
 {
     let mut places = ArrayVec::new();
@@ -47,14 +48,12 @@ fn places_in(line: &[u8]) -> ArrayVec<(usize, usize), 11>
 }
 
 impl<'a> Words<'a> {
-    /// The words of this line.
-    pub(crate) fn of(line: &'a [u8]) -> Words<'a>
+    /// The words of this line, which stand at these places.
+    pub(crate) fn at(line: &'a [u8], places: &'a [(usize, usize)]) -> Words<'a>
+        requires { ArePlaces line.now places.now }
         ensures { result ≡ words_of line.now }
     {
-        Words {
-            line,
-            places: places_in(line),
-        }
+        Words { line, places }
     }
 
     /// The word at this place, empty where there is none.
@@ -63,9 +62,8 @@ impl<'a> Words<'a> {
         requires { i ≤ 10 }
         ensures { result.now ≡ at self.now i }
     {
-        let places = self.places.as_slice();
-        if i < places.len() {
-            let (start, end) = places[i];
+        if i < self.places.len() {
+            let (start, end) = self.places[i];
             &self.line[start..end]
         } else {
             b""

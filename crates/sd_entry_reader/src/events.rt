@@ -281,12 +281,15 @@ fn answering_event(names: &Names<'_>, k: &[u8], words: &Words<'_>) -> Option<Eve
     }
 }
 
-/// The event of the line, where it is one's.
+/// The event of the line, where it is one's. Most lines of a run with idle processors are theirs, so their word is asked for first.
 #[tactic(auto, unfolding(sd_entries::specs::Reading::event_of))]
 pub(crate) fn event_of(names: &Names<'_>, words: &Words<'_>) -> Event
     ensures { result ≡ event_of names.now.work.now words.now }
 {
     let k = words.word(2);
+    if is_word(k, b"idle") {
+        return Event::Idle;
+    }
     if let Some(event) = running_event(names, k, words) {
         return event;
     }

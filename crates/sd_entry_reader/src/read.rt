@@ -7,7 +7,7 @@ ghost use Rattle.sd_entries.specs.Fitting.{IsSpelled, entry_fits};
 ghost use Rattle.sd_entries.specs.Reading.{at, bind_len, entry_of, event_len, hints_by, is_comma, numbers_in, prio_len, put_len, woken_len};
 
 use crate::Names;
-use crate::cutting::Words;
+use crate::cutting::{Words, places_in};
 use crate::events::event_of;
 use crate::fitting::{entry_fits, may_read};
 use crate::words::{byte_in, cpu_in, is_word, number_in};
@@ -176,7 +176,8 @@ pub fn read_entry(names: &Names<'_>, text: &mut EntryLine, line: &[u8]) -> Optio
     ensures none { IfNone result ((e : EntryValue) → IsSpelled names.now.work.now e → entry_text names.now.work.now e ≡ line.now ++ 10 ∷ [] → ⊥) }
 {
     let work = names.work;
-    let words = Words::of(line);
+    let places = places_in(line);
+    let words = Words::at(line, places.as_slice());
     let entry = entry_of(names, &words);
     if entry_fits(work, &entry) && is_line_of(work, &entry, text, line) {
         Some(entry)

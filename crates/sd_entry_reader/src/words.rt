@@ -1,6 +1,6 @@
 //! What a word is, and the numbers that it spells.
 
-ghost use Rattle.std.specs.Prelude.{◌≡◌, ◌<◌, ◌^◌, IfSome};
+ghost use Rattle.std.specs.Prelude.{◌≡◌, ◌<◌, ◌≤◌, ◌^◌, IfSome, length};
 ghost use Rattle.sd_types.specs.Works.{same_bytes};
 ghost use Rattle.sd_entries.specs.Reading.{byte_in, count_in, cpu_in, cpu_in_if, digits_of, number_in};
 
@@ -31,11 +31,31 @@ fn digits_of(word: &[u8]) -> Option<u128>
     Some(value)
 }
 
+// The same of at most 9 digits, as most numbers of a line have.
+#[tactic(auto, unfolding(sd_entries::specs::Reading::digits_of))]
+fn few_digits_of(word: &[u8]) -> Option<u64>
+    requires { length word.now ≤ 9 }
+    ensures value { result ≡ digits_of word.now }
+    ensures bound { IfSome result (λ n. n < 10 ^ 9) }
+{
+    let mut value = 0;
+    for byte in word {
+        if !byte.is_ascii_digit() {
+            return None;
+        }
+        value = value * 10 + u64::from(*byte - b'0');
+    }
+    Some(value)
+}
+
 /// The number of 64 bits that a word spells, 0 where it spells none.
 #[tactic(auto, unfolding(sd_entries::specs::Reading::number_in))]
 pub(crate) fn number_in(word: &[u8]) -> u64
     ensures { result ≡ number_in word.now }
 {
+    if word.len() <= 9 {
+        return few_digits_of(word).unwrap_or(0);
+    }
     match digits_of(word) {
         Some(n) if n < 1 << 64 => n as u64,
         _ => 0,
