@@ -10,7 +10,11 @@ use std::sync::Wait;
 use std::thread::Threads;
 
 /// Each text with its number behind it, and the end of the line.
-fn put_line(out: &mut Vec<u8>, pieces: &[(&str, u64)], end: &str) -> Result<(), AllocError> {
+pub(crate) fn put_line(
+    out: &mut Vec<u8>,
+    pieces: &[(&str, u64)],
+    end: &str,
+) -> Result<(), AllocError> {
     for (text, number) in pieces {
         out.extend_from_slice(text.as_bytes())?;
         put_number(out, *number)?;

@@ -7,6 +7,8 @@ mod damaged;
 #[cfg(test)]
 mod declared;
 #[cfg(test)]
+mod fault_texts;
+#[cfg(test)]
 mod judging;
 #[cfg(test)]
 mod lines;
