@@ -3,6 +3,7 @@ pub mod CauseLemmas
 pub mod CutLemmas
 pub mod FindLemmas
 pub mod HandingLemmas
+pub mod ProgressLemmas
 pub mod QuietLemmas
 pub mod ShownLemmas
 pub mod TextLemmas

@@ -33,7 +33,7 @@ use Rattle.sd_search_answers.specs.declared.verdicts.Verdict.TheVariants.{NoThre
 use Rattle.sd_search_answers.specs.Answered.{IsTimedByName, IsTold, IsWaitedByName}
 use Rattle.sd_search_answers.specs.Lefts.{left_line, lefts_text, line_if_left, place_words}
 use Rattle.sd_search_answers.specs.Texts.{all_line, count_text, earliest_head, entries_line, finding_text, found_head, latest_head, left_text, longest_text, states_line, thread_line, tick_line, timing_text, wait_head}
-use Rattle.sd_find.specs.Shown.{progress_line}
+use Rattle.sd_find.specs.Progress.{progress_line}
 
 -- ---- the journal
 

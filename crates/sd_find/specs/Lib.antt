@@ -1,4 +1,5 @@
 pub mod Asked
+pub mod Progress
 pub mod Audited
 pub mod Promises
 pub mod Shown

@@ -1,7 +1,6 @@
--- The runs that are shown: what a finding says of a workload, and that its journal is one that the audit finds legal. And the line that is
--- shown of a search that goes on.
+-- The runs that are shown: what a finding says of a workload, and that its journal is one that the audit finds legal.
 -- Source: this project's own.
-use Rattle.std.specs.Prelude.{ℕ, List, ◌++◌, length, codes, decimal}
+use Rattle.std.specs.Prelude.{List, length}
 use Rattle.sd_types.specs.declared.events.Entry.{Entry}
 use Rattle.sd_types.specs.declared.works.Work.{Work}
 use Rattle.sd_state.specs.Opening.{opening}
@@ -20,7 +19,3 @@ IsCertified w es = IsJournal w (journal w es) (final w (opening w) es) (length e
 pub record IsShown (w : Work) (q : Question) (es : List Entry) : Type 0 where
   pub witness : IsWitness w q es
   pub certified : IsCertified w es
-
--- so many states were found, the last of them after so many turns of processors
-abbrev pub progress_line : ℕ → ℕ → List ℕ
-progress_line states depth = codes "states " ++ (decimal states ++ (codes " depth " ++ (decimal depth ++ codes "\n")))

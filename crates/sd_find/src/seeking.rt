@@ -4,6 +4,7 @@ ghost use Rattle.std.specs.Prelude.{◌≡◌, ◌≢◌, [], IsErrOf, IsOk};
 ghost use Rattle.sd_text.specs.Lines.{EndsLine};
 ghost use Rattle.sd_answers.specs.StreamChanges.{IsUntouched, LeavesHeld, Puts, change_of};
 ghost use Rattle.sd_answers.specs.declared.writing.Unwritten.TheVariants.{Memory};
+ghost use Rattle.sd_find.specs.Progress.{IsWatching, IsWatchingUnless};
 ghost use Rattle.sd_find.specs.Seeking.{CausedBySearch, LeavesHeldAtEnd};
 
 use sd_answers::{Answer, Unwritten, print_text, read_input};
@@ -41,6 +42,7 @@ pub(crate) fn seek<S: Source, K: Sink, W: Watch>(
         (change_of (K.contents out.old) (K.contents out.new) (K.fault_count out.old) (K.fault_count out.new))
         result }
     ensures leaves { LeavesHeldAtEnd result (K.held_back out.old) (K.held_back out.new) }
+    ensures watched { IsWatching W.noted (change_of (S.remaining input.old) (S.remaining input.new) (S.fault_count input.old) (S.fault_count input.new)) watch.old watch.new }
 {
     let work = read_input(alloc, input)?;
     let told = tell(alloc, &work, aim, most, watch)?;
@@ -63,6 +65,7 @@ pub(crate) fn seek_watched<S: Source, K: Sink, W: Watch>(
         (change_of (K.contents out.old) (K.contents out.new) (K.fault_count out.old) (K.fault_count out.new))
         result }
     ensures leaves { LeavesHeldAtEnd result (K.held_back out.old) (K.held_back out.new) }
+    ensures watched { IsWatchingUnless quiet W.noted (change_of (S.remaining input.old) (S.remaining input.new) (S.fault_count input.old) (S.fault_count input.new)) watch.old watch.new }
 {
     if quiet {
         seek(alloc, aim, most, input, out, &mut Unwatched)

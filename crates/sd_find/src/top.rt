@@ -4,7 +4,8 @@ ghost use Rattle.std.specs.Prelude.{◌≡◌, map, string_bytes, IsErrOf};
 ghost use Rattle.sd_answers.specs.Handing.{IsHandedOn};
 ghost use Rattle.sd_answers.specs.StreamChanges.{Puts, TellsLine, change_of};
 ghost use Rattle.sd_answers.specs.declared.writing.Unwritten.TheVariants.{Memory};
-ghost use Rattle.sd_find.specs.Asked.{asked};
+ghost use Rattle.sd_find.specs.Asked.{asked, is_quiet};
+ghost use Rattle.sd_find.specs.Progress.{IsWatchingUnless, Shows, ShowsProgress};
 ghost use Rattle.sd_find.specs.Promises.{SearchesAsPromised};
 ghost use Rattle.sd_find.specs.Seeking.{ended_line, ended_status, verdict_line, verdict_status};
 ghost use Rattle.sd_find.specs.Starts.{DispfindStarts};
@@ -71,8 +72,8 @@ fn report<E: Sink>(ended: Result<Verdict, Answer>, err: &mut E) -> u8
 /// none of the forms), 2 (the input is too large, no accepted workload, or has no thread of the name), 3 (a read failed), 4 (a
 /// write failed) and 5 (out of memory); each of these five leaves a line on `err`. With 0, 9, 10 and 11 `out` has handed on all that it
 /// holds. Nothing is written to `out` before the search
-/// has ended. Meanwhile `progress` shows how far it has come, unless the last argument is `--quiet`, which is no part of the forms;
-/// nothing is promised of what it shows.
+/// has ended. Meanwhile `progress` shows how far it has come, by a line behind each 50,000 states that were expanded without an end,
+/// unless the last argument is `--quiet`, which is no part of the forms.
 pub fn find<S: Source, K: Sink, E: Sink, P: Sink>(
     alloc: Global,
     arguments: &[String],
@@ -87,6 +88,9 @@ pub fn find<S: Source, K: Sink, E: Sink, P: Sink>(
         (change_of (E.contents err.old) (E.contents err.new) (E.fault_count err.old) (E.fault_count err.new))
         result }
     ensures handed_on { IsHandedOn result (K.held_back out.old) (K.held_back out.new) }
+    ensures progress { IsWatchingUnless (is_quiet (map string_bytes arguments.now)) (Shows P.contents P.fault_count)
+        (change_of (S.remaining input.old) (S.remaining input.new) (S.fault_count input.old) (S.fault_count input.new))
+        progress.old progress.new }
 {
     match request_of(asked(arguments)) {
         Some(Request::Help) => report(put_help(out), err),
@@ -115,6 +119,9 @@ pub fn start<S: Source, K: Sink, E: Sink, P: Sink>(
         (change_of (E.contents err.old) (E.contents err.new) (E.fault_count err.old) (E.fault_count err.new))
         result }
     ensures handed_on { IsHandedOn result (K.held_back out.old) (K.held_back out.new) }
+    ensures progress { ShowsProgress P.contents P.fault_count arguments
+        (change_of (S.remaining input.old) (S.remaining input.new) (S.fault_count input.old) (S.fault_count input.new))
+        progress.old progress.new }
 {
     match arguments {
         Ok(arguments) => find(alloc, &arguments, input, out, err, progress),

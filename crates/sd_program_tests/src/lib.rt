@@ -14,6 +14,8 @@ mod judging;
 #[cfg(test)]
 mod large;
 #[cfg(test)]
+mod progress;
+#[cfg(test)]
 mod refused_late;
 #[cfg(test)]
 mod runs;

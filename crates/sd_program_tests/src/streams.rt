@@ -57,7 +57,11 @@ fn source_of(
     Ok(MemorySource::new(bytes, chunk, failing))
 }
 
-fn sink_of(alloc: Global, room: usize, writes: &[u64]) -> Result<MemorySink, AllocError> {
+pub(crate) fn sink_of(
+    alloc: Global,
+    room: usize,
+    writes: &[u64],
+) -> Result<MemorySink, AllocError> {
     let failing = Vec::from_slice(alloc, writes)?;
     MemorySink::new(alloc, room, failing)
 }

@@ -1,8 +1,9 @@
 //! The search of a workload, and what is said of it.
 
-ghost use Rattle.std.specs.Prelude.{◌≡◌, ◌<◌, ℕ, length, IfOk};
-ghost use Rattle.sd_search.specs.Graphs.{Gathers, packed};
+ghost use Rattle.std.specs.Prelude.{◌≡◌, ◌<◌, ◌-◌, ℕ, length, IfOk, OnErr, OnOk};
+ghost use Rattle.sd_search.specs.Graphs.{Gathers, IsDeep, packed, steps_of};
 ghost use Rattle.sd_search_answers.specs.Answered.{IsAnswered, IsCounted, IsSearch, IsTimed, IsTimedByName, IsTold, IsWaited, IsWaitedByName, count_verdict, timing_verdict, verdict_of};
+ghost use Rattle.sd_search_answers.specs.Watched.{IsWatched};
 
 use crate::forms::Aim;
 use crate::texts::{text_of_count, text_of_finding};
@@ -31,6 +32,8 @@ fn report<W: Watch>(
 ) -> Result<(), AllocError>
     requires gathered { Gathers work.now graph.now }
     requires some { 0 < length (packed graph.now) }
+    ensures told { OnOk result ((depth : ℕ) × IsDeep (steps_of graph.now) (length (packed graph.now) - 1) depth × W.noted watch.old watch.new (length (packed graph.now)) depth) }
+    ensures untold { OnErr result (watch.new ≡ watch.old) }
 {
     let last = graph.path(alloc, work, graph.len() - 1)?;
     watch.saw(graph.len() as u64, last.len() as u64);
@@ -44,7 +47,8 @@ fn search<W: Watch>(
     most: u64,
     watch: &mut W,
 ) -> Result<Graph, AllocError>
-    ensures { IfOk result (IsSearch work.now most) }
+    ensures found { IfOk result (IsSearch work.now most) }
+    ensures watched { IsWatched W.noted work.now watch.old watch.new }
 {
     let mut graph = begin(alloc, work)?;
     for _ in 0..MOST_SLICES {
@@ -99,7 +103,8 @@ fn answer<W: Watch>(
     most: u64,
     watch: &mut W,
 ) -> Result<Told, AllocError>
-    ensures { IfOk result (IsAnswered work.now question most) }
+    ensures said { IfOk result (IsAnswered work.now question most) }
+    ensures watched { IsWatched W.noted work.now watch.old watch.new }
 {
     let graph = search(alloc, work, most, watch)?;
     answer_from(alloc, work, question, &graph)
@@ -121,7 +126,8 @@ fn count_from(alloc: Global, work: &Work, graph: &Graph) -> Result<Told, AllocEr
 
 /// How many states there are, in how many of them runs end, and how many entries a run has at most.
 fn count<W: Watch>(alloc: Global, work: &Work, most: u64, watch: &mut W) -> Result<Told, AllocError>
-    ensures { IfOk result (IsCounted work.now most) }
+    ensures said { IfOk result (IsCounted work.now most) }
+    ensures watched { IsWatched W.noted work.now watch.old watch.new }
 {
     let graph = search(alloc, work, most, watch)?;
     count_from(alloc, work, &graph)
@@ -162,7 +168,8 @@ fn time<W: Watch>(
     most: u64,
     watch: &mut W,
 ) -> Result<Told, AllocError>
-    ensures { IfOk result (IsTimed work.now thread most) }
+    ensures said { IfOk result (IsTimed work.now thread most) }
+    ensures watched { IsWatched W.noted work.now watch.old watch.new }
 {
     let graph = search(alloc, work, most, watch)?;
     time_from(alloc, work, thread, &graph)
@@ -176,7 +183,8 @@ fn time_named<W: Watch>(
     most: u64,
     watch: &mut W,
 ) -> Result<Told, AllocError>
-    ensures { IfOk result (IsTimedByName work.now name.now most) }
+    ensures said { IfOk result (IsTimedByName work.now name.now most) }
+    ensures watched { IsWatched W.noted work.now watch.old watch.new }
 {
     match thread_named(work, name) {
         Some(thread) => time(alloc, work, thread, most, watch),
@@ -212,7 +220,8 @@ fn wait<W: Watch>(
     most: u64,
     watch: &mut W,
 ) -> Result<Told, AllocError>
-    ensures { IfOk result (IsWaited work.now thread most) }
+    ensures said { IfOk result (IsWaited work.now thread most) }
+    ensures watched { IsWatched W.noted work.now watch.old watch.new }
 {
     let graph = search(alloc, work, most, watch)?;
     wait_from(alloc, work, thread, &graph)
@@ -226,7 +235,8 @@ fn wait_named<W: Watch>(
     most: u64,
     watch: &mut W,
 ) -> Result<Told, AllocError>
-    ensures { IfOk result (IsWaitedByName work.now name.now most) }
+    ensures said { IfOk result (IsWaitedByName work.now name.now most) }
+    ensures watched { IsWatched W.noted work.now watch.old watch.new }
 {
     match thread_named(work, name) {
         Some(thread) => wait(alloc, work, thread, most, watch),
@@ -246,7 +256,8 @@ pub fn tell<W: Watch>(
     most: u64,
     watch: &mut W,
 ) -> Result<Told, AllocError>
-    ensures { IfOk result (IsTold work.now aim.now most) }
+    ensures said { IfOk result (IsTold work.now aim.now most) }
+    ensures watched { IsWatched W.noted work.now watch.old watch.new }
 {
     match aim {
         Aim::Find(question) => answer(alloc, work, *question, most, watch),

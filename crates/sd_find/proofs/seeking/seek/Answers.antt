@@ -1,4 +1,4 @@
-use Rattle.std.proofs.Common.{refl, sym, ap, subst, List, ℕ, Ok, Err, ◌∙◌, inl}
+use Rattle.std.proofs.Common.{refl, sym, ap, subst, List, ℕ, Ok, Err, ◌∙◌, inl, inr}
 use Rattle.sd_text.specs.Lines.{EndsLine}
 use Rattle.sd_answers.specs.declared.answers.Answer.TheVariants.{OutOfMemory}
 use Rattle.sd_answers.specs.Answers.{unwritten_answer}
@@ -51,7 +51,7 @@ returns-in_err-print_said-clause-caused g c =
     let told = c.in_ok-told.told in
     let e = c.in_err-print_said.field-0.0 in
     seek_exit c.args.aim.now c.args.most input out c.from_residual-in_err-print_said.result (unwritten_answer e) c.from_residual-in_err-print_said.ensures.1
-    (unwritten_told c.args.aim.now c.args.most input out told e (record { work = c.in_ok-work.work; workload = c.in_ok-work.ensures; is = c.in_ok-told.ensures })
+    (unwritten_told c.args.aim.now c.args.most input out told e (record { work = c.in_ok-work.work; workload = c.in_ok-work.ensures; is = c.in_ok-told.ensures.said })
     (λ empty. let both = c.in_err-print_said.ensures.silent (c.deref.ensures.value ∙ empty) in let ok = both.0 in cc)
     (subst (λ (t : List ℕ). Puts (held o) (held p) (written o) (written p) t (Err e)) c.deref.ensures.value c.in_err-print_said.ensures.puts)
     (λ is. c.in_err-print_said.ensures.no_memory (ap Err is)))
@@ -65,7 +65,7 @@ returns-clause-caused g c =
     let puts = subst (λ (t : List ℕ). Puts (held o) (held p) (written o) (written p) t (Ok tt)) c.deref.ensures.value c.in_ok-print_said.ensures.puts in
     record {
       told = c.in_ok-told.told;
-      of = record { work = c.in_ok-work.work; workload = c.in_ok-work.ensures; is = c.in_ok-told.ensures };
+      of = record { work = c.in_ok-work.work; workload = c.in_ok-work.ensures; is = c.in_ok-told.ensures.said };
       verdict_is = refl;
       whole = puts.ok;
       silent = λ empty. (c.in_ok-print_said.ensures.silent (c.deref.ensures.value ∙ empty)).1;
@@ -74,7 +74,7 @@ returns-clause-caused g c =
 
 pub print_said-requires : goal.print_said-requires
 print_said-requires g c =
-    subst EndsLine (sym c.deref.ensures.value) (told-ends c.in_ok-work.work c.args.aim.now c.args.most c.in_ok-told.told c.in_ok-told.ensures)
+    subst EndsLine (sym c.deref.ensures.value) (told-ends c.in_ok-work.work c.args.aim.now c.args.most c.in_ok-told.told c.in_ok-told.ensures.said)
 
 pub returns-in_err-work-clause-leaves : goal.returns-in_err-work-clause-leaves
 returns-in_err-work-clause-leaves g c =
@@ -105,5 +105,17 @@ pub returns-clause-leaves : goal.returns-clause-leaves
 returns-clause-leaves g c =
     let held = g.K.Sink.held_back in
     let told = c.in_ok-told.told in
-    leaves_told c.in_ok-work.work c.args.aim.now c.args.most told (held c.args.out.now) (held c.print_said.new.out) c.in_ok-told.ensures
+    leaves_told c.in_ok-work.work c.args.aim.now c.args.most told (held c.args.out.now) (held c.print_said.new.out) c.in_ok-told.ensures.said
     (λ some. c.in_ok-print_said.ensures.leaves (λ empty. some (sym c.deref.ensures.value ∙ empty))) (λ empty. c.in_ok-print_said.ensures.alone (c.deref.ensures.value ∙ empty))
+
+pub returns-in_err-work-clause-watched : goal.returns-in_err-work-clause-watched
+returns-in_err-work-clause-watched g c = inl refl
+
+pub returns-in_err-told-clause-watched : goal.returns-in_err-told-clause-watched
+returns-in_err-told-clause-watched g c = inr (c.in_ok-work.work, c.in_ok-work.ensures, c.tell.ensures.watched)
+
+pub returns-in_err-print_said-clause-watched : goal.returns-in_err-print_said-clause-watched
+returns-in_err-print_said-clause-watched g c = inr (c.in_ok-work.work, c.in_ok-work.ensures, c.tell.ensures.watched)
+
+pub returns-clause-watched : goal.returns-clause-watched
+returns-clause-watched g c = inr (c.in_ok-work.work, c.in_ok-work.ensures, c.tell.ensures.watched)

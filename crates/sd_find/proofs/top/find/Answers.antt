@@ -1,4 +1,4 @@
-use Rattle.std.proofs.Common.{ℕ, Some, Err, Result, map, refl, sym, ap, subst, ◌∙◌, inl}
+use Rattle.std.proofs.Common.{ℕ, Bool, Some, Err, Result, map, refl, sym, ap, subst, ◌∙◌, inl}
 use Rattle.sd_answers.specs.Handing.{IsHandedOn}
 use Rattle.std.specs.Prelude.{string_bytes}
 use Rattle.sd_answers.specs.declared.answers.Answer.{Answer}
@@ -7,10 +7,12 @@ use Rattle.sd_answers.specs.StreamChanges.{change_of}
 use Rattle.sd_search_answers.specs.declared.forms.Request.{Request}
 use Rattle.sd_search_answers.specs.declared.verdicts.Verdict.{Verdict}
 use Rattle.sd_search_answers.specs.Forms.{request_of}
-use Rattle.sd_find.specs.Asked.{asked}
+use Rattle.sd_find.specs.Asked.{asked, is_quiet}
+use Rattle.sd_find.specs.Progress.{IsWatchingUnless, Shows}
 use Rattle.sd_find.specs.Seeking.{CausedByFindRequest}
 use Rattle.sd_find.proofs.FindLemmas.{promises_of}
 use Rattle.sd_find.proofs.HandingLemmas.{handed_at_end}
+use Rattle.sd_find.proofs.ProgressLemmas.{still}
 use Rattle.sd_find.proofs.top.find.Goals as goal
 
 pub returns-in-Some-Search-clause-promises : goal.returns-in-Some-Search-clause-promises
@@ -87,3 +89,24 @@ returns-in-None-clause-handed_on g c =
     let held = g.K.Sink.held_back c.args.out.now in
     let usage : Result Verdict Answer = Err Usage in
     subst (λ (n : ℕ). IsHandedOn n held held) (sym c.report-in-None.ensures.status) (handed_at_end usage held held (inl refl))
+
+pub returns-in-Some-Search-clause-progress : goal.returns-in-Some-Search-clause-progress
+returns-in-Some-Search-clause-progress g c =
+    let left = g.S.Source.remaining in
+    let read = g.S.Source.fault_count in
+    let i = c.args.input.now in
+    let j = c.seek_watched-ended.new.input in
+    let input = change_of (left i) (left j) (read i) (read j) in
+    subst (λ (quiet : Bool). IsWatchingUnless quiet (Shows g.P.Sink.contents g.P.Sink.fault_count) input c.args.progress.now c.seek_watched-ended.new.watch) c.is_quiet-quiet.ensures c.seek_watched-ended.ensures.watched
+
+pub returns-in-Some-Help-clause-progress : goal.returns-in-Some-Help-clause-progress
+returns-in-Some-Help-clause-progress g c =
+    let left = g.S.Source.remaining c.args.input.now in
+    let read = g.S.Source.fault_count c.args.input.now in
+    still (is_quiet (map string_bytes c.args.arguments.now)) (Shows g.P.Sink.contents g.P.Sink.fault_count) (change_of left left read read) c.args.progress.now
+
+pub returns-in-None-clause-progress : goal.returns-in-None-clause-progress
+returns-in-None-clause-progress g c =
+    let left = g.S.Source.remaining c.args.input.now in
+    let read = g.S.Source.fault_count c.args.input.now in
+    still (is_quiet (map string_bytes c.args.arguments.now)) (Shows g.P.Sink.contents g.P.Sink.fault_count) (change_of left left read read) c.args.progress.now
