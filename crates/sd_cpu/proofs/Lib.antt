@@ -1,4 +1,5 @@
 pub mod AttemptLemmas
+pub mod GateLemmas
 pub mod HasLemmas
 pub mod MeaningLemmas
 pub mod PhaseLemmas

@@ -1,4 +1,5 @@
 pub mod Attempts
+pub mod Gates
 pub mod Has
 pub mod Phases
 pub mod Seeking

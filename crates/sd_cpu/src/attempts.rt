@@ -64,14 +64,7 @@ fn read_hints<W: World>(world: &mut W, work: &Work, reading: &Option<Reading>) -
 }
 
 /// The hand has all that the event touches, or takes it. False where another processor is in the way.
-fn holds_touched<W: World, G: Gate>(
-    world: &mut W,
-    gate: &G,
-    work: &Work,
-    turn: u64,
-    passed: &mut bool,
-    event: Event,
-) -> bool
+fn holds_touched<W: World>(world: &mut W, work: &Work, event: Event) -> bool
     requires good { W.good world.old }
     requires work { work.now ≡ (W.meaning world.old).work }
     requires way { IsOnItsWay (W.meaning world.old) event }
@@ -81,7 +74,7 @@ fn holds_touched<W: World, G: Gate>(
     if world.has_all() {
         true
     } else {
-        hold_all(world, gate, work, turn, passed, event)
+        hold_all(world, work, event)
     }
 }
 
@@ -108,12 +101,9 @@ fn enter<W: World>(
 
 /// Makes the event, which may come now, once the homes are held that it touches, and answers the number of its entry. `None` where
 /// another processor is in the way.
-fn make<W: World, G: Gate>(
+fn make<W: World>(
     world: &mut W,
-    gate: &G,
     work: &Work,
-    turn: u64,
-    passed: &mut bool,
     event: Event,
     hints: Option<Hints>,
 ) -> Result<Option<u64>, Stop>
@@ -125,7 +115,7 @@ fn make<W: World, G: Gate>(
     ensures good { W.good world.new }
     ensures enters { Enters (W.meaning world.old) (W.meaning world.new) (ticks event) result }
 {
-    if holds_touched(world, gate, work, turn, passed, event) {
+    if holds_touched(world, work, event) {
         enter(world, work, event, hints)
     } else {
         Ok(None)
@@ -145,12 +135,9 @@ fn turn_of(made: Result<Option<u64>, Stop>, ticks: bool) -> Result<Option<Turned
 }
 
 /// Ticks, where the processor may.
-fn tick<W: World, G: Gate>(
+fn tick<W: World>(
     world: &mut W,
-    gate: &G,
     work: &Work,
-    turn: u64,
-    passed: &mut bool,
     event: Event,
     hints: Option<Hints>,
 ) -> Result<Option<Turned>, Stop>
@@ -164,17 +151,14 @@ fn tick<W: World, G: Gate>(
 {
     match hindrance(world, work) {
         Some(turned) => Ok(Some(turned)),
-        None => turn_of(make(world, gate, work, turn, passed, event, hints), true),
+        None => turn_of(make(world, work, event, hints), true),
     }
 }
 
 /// Makes the event, where it may come now.
-fn come<W: World, G: Gate>(
+fn come<W: World>(
     world: &mut W,
-    gate: &G,
     work: &Work,
-    turn: u64,
-    passed: &mut bool,
     event: Event,
     hints: Option<Hints>,
 ) -> Result<Option<Turned>, Stop>
@@ -186,9 +170,9 @@ fn come<W: World, G: Gate>(
     ensures acts { Acts (W.meaning world.old) (W.meaning world.new) result }
 {
     if event.ticks() {
-        tick(world, gate, work, turn, passed, event, hints)
+        tick(world, work, event, hints)
     } else {
-        turn_of(make(world, gate, work, turn, passed, event, hints), false)
+        turn_of(make(world, work, event, hints), false)
     }
 }
 
@@ -210,8 +194,8 @@ fn act<W: World, G: Gate>(
         return Ok(None);
     };
     let hints = read_hints(world, work, &course.reading);
-    match find_event(world, gate, work, turn, passed, course.plan, &hints) {
-        Some(event) => come(world, gate, work, turn, passed, event, hints),
+    match find_event(world, work, course.plan, &hints) {
+        Some(event) => come(world, work, event, hints),
         None => Ok(None),
     }
 }

@@ -11,6 +11,6 @@ mod touching;
 mod turns;
 
 pub use attempts::{Attempted, Turned, attempt};
-pub use gate::{Gate, OpenGate};
+pub use gate::{Gate, OpenGate, pass_gate};
 pub use phases::{Phased, phase};
 pub use turns::turn;

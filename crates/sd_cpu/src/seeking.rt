@@ -1,6 +1,6 @@
 //! The homes that a processor takes to find its event, and to make it.
 
-ghost use Rattle.std.specs.Prelude.{◌≡◌, ℕ, true, IfOk, MatchOption, option_map};
+ghost use Rattle.std.specs.Prelude.{◌≡◌, ◌||◌, ℕ, true, IfOk, MatchOption, option_map};
 ghost use Rattle.sd_types.specs.declared.numbers.ChanId.{ChanId as ChanIdOf};
 ghost use Rattle.sd_state.specs.declared.states.State.{State as StateOf};
 ghost use Rattle.sd_machine.specs.Events.{plan_event};
@@ -13,10 +13,11 @@ ghost use Rattle.sd_store.specs.Words.{Lacks, LacksIf, TellsIf};
 ghost use Rattle.sd_hand.specs.Acting.{IsShown, has_part, the_part};
 ghost use Rattle.sd_store.specs.declared.parts.Part.TheVariants.{Home, Thread};
 ghost use Rattle.sd_world.specs.Worlds.{CanLock, CanTake};
+ghost use Rattle.sd_cpu.specs.Gates.{holds_first};
 ghost use Rattle.sd_cpu.specs.Has.{HasIn, ShowsOne};
 ghost use Rattle.sd_cpu.specs.Seeking.{CanFetch, Fetches, FindsCourse, FindsEvent, GivesUp, HoldsAll, HoldsToMake, HoldsToRead, IsOnItsWay, IsReady, TellsCourse};
 
-use crate::gate::Gate;
+use crate::gate::{Gate, pass_once};
 use crate::touching::touched;
 use sd_dispatcher::Reading;
 use sd_hand::Acting;
@@ -99,7 +100,7 @@ fn take_thread<W: World>(world: &mut W, t: ThreadId) -> bool
 }
 
 /// Takes the home that has the part.
-fn take_part<W: World>(world: &mut W, part: Part) -> bool
+fn fetch<W: World>(world: &mut W, part: Part) -> bool
     requires good { W.good world.old }
     requires can { CanFetch (W.meaning world.old) part }
     ensures good { W.good world.new }
@@ -112,28 +113,8 @@ fn take_part<W: World>(world: &mut W, part: Part) -> bool
     }
 }
 
-/// Takes the home that has the part. The gate is passed with the first home of a turn.
-fn fetch<W: World, G: Gate>(
-    world: &mut W,
-    gate: &G,
-    turn: u64,
-    passed: &mut bool,
-    part: Part,
-) -> bool
-    requires good { W.good world.old }
-    requires can { CanFetch (W.meaning world.old) part }
-    ensures good { W.good world.new }
-    ensures fetches { Fetches (W.meaning world.old) (W.meaning world.new) part result }
-{
-    let taken = take_part(world, part);
-    if taken && !*passed {
-        gate.pass(turn, &world.acting().hand);
-        *passed = true;
-    }
-    taken
-}
-
-/// Takes the homes that are needed for the course of the processor. `None` where another processor is in the way.
+/// Takes the homes that are needed for the course of the processor, which passes the gate with the one that it looks at first. `None`
+/// where another processor is in the way.
 pub(crate) fn find_course<W: World, G: Gate>(
     world: &mut W,
     gate: &G,
@@ -146,26 +127,26 @@ pub(crate) fn find_course<W: World, G: Gate>(
     requires holds { HoldsToRead (W.meaning world.old) }
     ensures good { W.good world.new }
     ensures finds { MatchOption result (GivesUp (W.meaning world.old) (W.meaning world.new)) (FindsCourse (W.meaning world.old) (W.meaning world.new)) }
+    ensures passes { passed.new ≡ passed.old || holds_first (W.meaning world.new).acting }
 {
+    *passed = pass_once(world, gate, turn, *passed);
     'seeking: loop {
         match plan_course(work, world.acting()) {
             Ok(course) => return Some(course),
             Err(part) => {
-                if !fetch(world, gate, turn, passed, part) {
+                if !fetch(world, part) {
                     return None;
                 }
+                *passed = pass_once(world, gate, turn, *passed);
             }
         }
     }
 }
 
 /// Takes the homes that are needed to find the event of this plan, with the numbers that were read for it.
-pub(crate) fn find_event<W: World, G: Gate>(
+pub(crate) fn find_event<W: World>(
     world: &mut W,
-    gate: &G,
     work: &Work,
-    turn: u64,
-    passed: &mut bool,
     plan: Plan,
     hints: &Option<Hints>,
 ) -> Option<Event>
@@ -180,7 +161,7 @@ pub(crate) fn find_event<W: World, G: Gate>(
         match planned_event(work, world.acting(), hints, plan) {
             Ok(event) => return Some(event),
             Err(part) => {
-                if !fetch(world, gate, turn, passed, part) {
+                if !fetch(world, part) {
                     return None;
                 }
             }
@@ -189,14 +170,7 @@ pub(crate) fn find_event<W: World, G: Gate>(
 }
 
 /// Takes the homes that the event touches.
-pub(crate) fn hold_all<W: World, G: Gate>(
-    world: &mut W,
-    gate: &G,
-    work: &Work,
-    turn: u64,
-    passed: &mut bool,
-    event: Event,
-) -> bool
+pub(crate) fn hold_all<W: World>(world: &mut W, work: &Work, event: Event) -> bool
     requires good { W.good world.old }
     requires work { work.now ≡ (W.meaning world.old).work }
     requires way { IsOnItsWay (W.meaning world.old) event }
@@ -207,7 +181,7 @@ pub(crate) fn hold_all<W: World, G: Gate>(
         match lacking(work, world.acting(), event) {
             Ok(()) => return true,
             Err(part) => {
-                if !fetch(world, gate, turn, passed, part) {
+                if !fetch(world, part) {
                     return false;
                 }
             }

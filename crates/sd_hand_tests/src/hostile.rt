@@ -10,9 +10,8 @@ ghost use Rattle.sd_hand_tests.specs.Ready.{IsReady};
 use crate::{HostileWorld, Trouble, What};
 use sd_cpu::{Attempted, Gate, OpenGate, Turned, attempt};
 use sd_entries::EntryLine;
-use sd_hand::Hand;
-use sd_homes::ListId;
-use sd_types::{CpuId, HomeId, SetId, Work};
+use sd_homes::{Home, ListId};
+use sd_types::{CpuId, HomeId, Work};
 use sd_workload::read_work;
 use sd_world::PlainWorld;
 use std::alloc::{AllocError, Global};
@@ -33,7 +32,7 @@ const YIELD: &str =
 const YIELD_ENTRIES: &str =
     "0 c0 dispatch a 10\n1 c0 yield a\n2 c0 dispatch b 10\n3 c0 tick b\n4 c0 done b\n5 c0 dispatch a 10\n6 c0 tick a\n7 c0 done a\n";
 
-/// The first thread on the queue of the processor as it passes with its first home, turn by turn.
+/// The first thread on the queue of the processor as it passes with its home, turn by turn.
 const FIRST_QUEUED: [Option<u16>; 9] = [
     Some(0),
     Some(1),
@@ -46,32 +45,29 @@ const FIRST_QUEUED: [Option<u16>; 9] = [
     None,
 ];
 
-/// A gate that reads the home just taken: how often it was passed, and whether each time there was what was to be there.
+/// A gate that reads the home that is lent: how often it was passed, and whether each time there was what was to be there.
 #[derive(Drop)]
 struct Reader {
     passes: Cell<u64>,
     right: Cell<bool>,
 }
 
-/// The hand holds the processor's home and not that of its set, and this thread is the first on its queue.
-fn is_expected(hand: &Hand, first: Option<u16>) -> bool {
-    let Ok(home) = hand.home(HomeId::Cpu(CPU)) else {
-        return false;
-    };
+/// The home is that of the processor, and this thread is the first on its queue.
+fn is_expected(home: &Home, first: Option<u16>) -> bool {
     let queued = match home.first(ListId::Queues(CPU)) {
         None => None,
         Some(record) => Some(record.kept.id.0),
     };
-    queued == first && hand.home(HomeId::RealTime(SetId(0))).is_err()
+    queued == first && home.id() == HomeId::Cpu(CPU)
 }
 
 impl Gate for Reader {
-    fn pass(&self, turn: u64, hand: &Hand) {
+    fn pass(&self, cpu: CpuId, turn: u64, home: &Home) {
         let passes = self.passes.get();
         self.passes.set(passes.saturating_add(1));
         let right = match FIRST_QUEUED.get(turn as usize) {
             None => false,
-            Some(first) => turn == passes && is_expected(hand, *first),
+            Some(first) => cpu == CPU && turn == passes && is_expected(home, *first),
         };
         self.right.set(self.right.get() && right);
     }

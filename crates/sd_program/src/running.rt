@@ -31,7 +31,12 @@ use std::sync::Wait;
 use std::thread::Threads;
 
 /// Runs the workload in rounds.
-fn run_in_rounds(alloc: Global, work: &Work, mode: Mode) -> Result<Finished, Stop>
+fn run_in_rounds<G: Gate>(
+    alloc: Global,
+    work: &Work,
+    mode: Mode,
+    gate: &G,
+) -> Result<Finished, Stop>
     requires { mode ≢ Threads }
     ensures run { IfOk result (λ r. IsTheRun work.now mode r.entries.items) }
     ensures state { IfOk result (λ r. r.state ≡ final work.now (opening work.now) r.entries.items) }
@@ -39,7 +44,7 @@ fn run_in_rounds(alloc: Global, work: &Work, mode: Mode) -> Result<Finished, Sto
     ensures full { IsErrOf result Stop.Full → IsLong work.now mode }
 {
     match mode {
-        Mode::Rounds(orders) => run_rounds(alloc, work, orders),
+        Mode::Rounds(orders) => run_rounds(alloc, work, orders, gate),
         Mode::Threads => unreachable!(),
     }
 }
@@ -100,11 +105,12 @@ fn put_finished<K: Sink>(
 }
 
 /// Runs the workload in rounds and writes what the form prints of the run. Writing begins when the run is complete.
-pub(crate) fn run_work<K: Sink>(
+pub(crate) fn run_work<K: Sink, G: Gate>(
     alloc: Global,
     work: &Work,
     form: Form,
     out: &mut K,
+    gate: &G,
 ) -> Result<(), Answer>
     requires rounds { mode_of form ≢ Threads }
     ensures ran { Ran work.now form
@@ -113,7 +119,7 @@ pub(crate) fn run_work<K: Sink>(
     ensures never_falls { K.fault_count out.old ≤ K.fault_count out.new }
     ensures leaves { LeavesHeldBy (answer_of result) (K.held_back out.old) (K.held_back out.new) }
 {
-    let run = run_in_rounds(alloc, work, form.mode())?;
+    let run = run_in_rounds(alloc, work, form.mode(), gate)?;
     put_finished(alloc, work, form, &run, out)
 }
 

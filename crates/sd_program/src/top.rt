@@ -25,11 +25,12 @@ use std::sync::Wait;
 use std::thread::Threads;
 
 /// Reads the workload, runs it in rounds and writes what the form prints of the run.
-fn run_input<S: Source, K: Sink>(
+fn run_input<S: Source, K: Sink, G: Gate>(
     alloc: Global,
     form: Form,
     input: &mut S,
     out: &mut K,
+    gate: &G,
 ) -> Result<(), Answer>
     requires rounds { mode_of form ≢ Threads }
     ensures caused { CausedByInput form
@@ -39,7 +40,7 @@ fn run_input<S: Source, K: Sink>(
     ensures leaves { LeavesHeldBy (answer_of result) (K.held_back out.old) (K.held_back out.new) }
 {
     let work = read_input(alloc, input)?;
-    run_work(alloc, &work, form, out)
+    run_work(alloc, &work, form, out, gate)
 }
 
 /// Reads the workload, runs it on threads of the host and writes the journal of the run.
@@ -85,11 +86,12 @@ fn generate<K: Sink>(alloc: Global, number: u32, out: &mut K) -> Result<(), Answ
 }
 
 /// Does what the arguments ask for, on one thread of the host.
-fn carry_out<S: Source, K: Sink>(
+fn carry_out<S: Source, K: Sink, G: Gate>(
     alloc: Global,
     arguments: &[String],
     input: &mut S,
     out: &mut K,
+    gate: &G,
 ) -> Answer
     requires alone { command_of (map string_bytes arguments.now) ≢ Some (Run (Journal Threads)) }
     ensures caused { Caused (map string_bytes arguments.now)
@@ -99,7 +101,7 @@ fn carry_out<S: Source, K: Sink>(
     ensures leaves { LeavesHeldBy result (K.held_back out.old) (K.held_back out.new) }
 {
     match command_of(arguments) {
-        Some(Command::Run(form)) => Answer::of(run_input(alloc, form, input, out)),
+        Some(Command::Run(form)) => Answer::of(run_input(alloc, form, input, out, gate)),
         Some(Command::Tables) => Answer::of(tabulate(alloc, input, out)),
         Some(Command::Generate { number }) => Answer::of(generate(alloc, number, out)),
         Some(Command::Audit) => Answer::of(audit_input(alloc, input, out)),
@@ -127,14 +129,14 @@ fn tell<E: Sink>(answer: Answer, err: &mut E) -> u8
 /// that the text behind the workload is no such journal. The other statuses are 1 (the arguments are of none of the forms),
 /// 2 (the input is too large, no accepted workload, or has no journal), 3 (a read failed), 4 (a write failed), 5 (out of
 /// memory, and no fault of `input` or `out` was counted) and 8 (the run has 2^40 entries or more); each but 0 leaves one
-/// line on `err`. With status 0 or 6 `out` has handed on all that it holds.
+/// line on `err`. With status 0 or 6 `out` has handed on all that it holds. A processor passes the gate once in each of its turns.
 pub fn serial<S: Source, K: Sink, E: Sink, G: Gate>(
     alloc: Global,
     arguments: &[String],
     input: &mut S,
     out: &mut K,
     err: &mut E,
-    _gate: &G,
+    gate: &G,
 ) -> u8
     requires alone { command_of (map string_bytes arguments.now) ≢ Some (Run (Journal Threads)) }
     ensures promises { KeepsPromises (map string_bytes arguments.now)
@@ -144,7 +146,7 @@ pub fn serial<S: Source, K: Sink, E: Sink, G: Gate>(
         result }
     ensures handed_on { IsHandedOn result (K.held_back out.old) (K.held_back out.new) }
 {
-    tell(carry_out(alloc, arguments, input, out), err)
+    tell(carry_out(alloc, arguments, input, out, gate), err)
 }
 
 /// Does what `run --threads` asks for.
@@ -169,8 +171,8 @@ fn dispsim_on_threads<R: Threads + Wait + Sync, S: Source, K: Sink, E: Sink, G: 
 
 /// The program: as `serial`; and with the arguments `run --threads` the processors act side by side, as far as `rt` starts threads
 /// of the host. What is printed is then the journal of a complete legal run in one of the orders in which they can act, and may be
-/// another one each time. On threads the gate is passed at most once in each turn of a processor, with the first home that it takes; on one
-/// thread nobody passes it.
+/// another one each time. In rounds and on threads alike a processor passes the gate once in each of its turns, with the home that the
+/// turn looks at first.
 pub fn dispsim<R: Threads + Wait + Sync, S: Source, K: Sink, E: Sink, G: Gate + Sync>(
     rt: &R,
     alloc: Global,

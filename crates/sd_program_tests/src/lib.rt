@@ -8,6 +8,8 @@ mod cuts;
 #[cfg(test)]
 mod failing;
 #[cfg(test)]
+mod gates;
+#[cfg(test)]
 mod generated;
 #[cfg(test)]
 mod judging;

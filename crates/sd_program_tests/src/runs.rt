@@ -452,7 +452,7 @@ fn is_log_replayed(alloc: Global, work: &Work, log: &EntryLog) -> Result<bool, A
 
 /// The run of the workload is replayed.
 fn is_run_replayed(alloc: Global, work: &Work) -> Result<bool, AllocError> {
-    match run_rounds(alloc, work, RoundOrder::Rising) {
+    match run_rounds(alloc, work, RoundOrder::Rising, &OpenGate) {
         Ok(run) => is_log_replayed(alloc, work, &run.entries),
         Err(_) => Ok(false),
     }

@@ -1,20 +1,18 @@
-//! Runs whose processors are threads of the host: that they run side by side, on homes that they take one by one, and that what is printed
-//! is the journal of a run.
+//! Runs whose processors are threads of the host: that they run side by side, and that what is printed is the journal of a run.
 
 ghost use Rattle.std.specs.Prelude.{◌≤◌, IfOk};
 
 use crate::judging::is_so;
-use crate::runs::{SPINNING, YIELD};
+use crate::runs::SPINNING;
 use crate::streams::{Called, Given, Program, Wanted, answers, call_gated, plain};
 use sd_cpu::{Gate, OpenGate};
-use sd_hand::Hand;
-use sd_homes::ListId;
-use sd_types::{CpuId, HomeId};
+use sd_homes::Home;
+use sd_types::CpuId;
 use std::alloc::AllocError;
 use std::hint::spin_loop;
 use std::marker::Sync;
 use std::sync::Wait;
-use std::sync::atomic::{AtomicBool, AtomicU64, Ordering};
+use std::sync::atomic::{AtomicBool, Ordering};
 use std::thread::Threads;
 
 /// Two threads of two ticks each, on two processors.
@@ -24,7 +22,7 @@ const TWO: &str =
 /// So often the gate looks whether the other processor has come.
 const LOOKS: u64 = 100_000_000;
 
-/// A gate that holds processor 0 in its first turn, with its home taken, until processor 1 comes to its second.
+/// A gate that holds processor 0 in its first turn, with its home in its hand, until processor 1 comes to its second.
 #[derive(Drop)]
 struct Meeting {
     came: AtomicBool,
@@ -43,50 +41,12 @@ impl Meeting {
     }
 }
 
-/// The hand holds the home of this processor.
-fn is_of(hand: &Hand, cpu: u16) -> bool {
-    hand.home(HomeId::Cpu(CpuId(cpu))).is_ok()
-}
-
 impl Gate for Meeting {
-    fn pass(&self, turn: u64, hand: &Hand) {
-        if is_of(hand, 1) && turn == 1 {
-            self.came.store(true, Ordering::SeqCst);
-        }
-        if is_of(hand, 0) && turn == 0 {
-            self.wait();
-        }
-    }
-}
-
-/// The first thread on the queue of the one processor as it passes with its home, turn by turn: 1 more than its number, or 0.
-const FIRST_QUEUED: [u64; 9] = [1, 2, 2, 1, 1, 1, 0, 0, 0];
-
-/// A gate that reads the home just taken: how often it was passed, and how often there was what was to be there.
-#[derive(Drop)]
-struct Reader {
-    passes: AtomicU64,
-    right: AtomicU64,
-}
-
-fn first_queued(hand: &Hand) -> u64 {
-    let cpu = CpuId(0);
-    match hand.home(HomeId::Cpu(cpu)) {
-        Err(_) => 9,
-        Ok(home) => match home.first(ListId::Queues(cpu)) {
-            None => 0,
-            Some(record) => u64::from(record.kept.id.0) + 1,
-        },
-    }
-}
-
-impl Gate for Reader {
-    fn pass(&self, turn: u64, hand: &Hand) {
-        let passes = self.passes.fetch_add(1, Ordering::SeqCst);
-        let alone = hand.home(HomeId::RealTime(sd_types::SetId(0))).is_err();
-        let first = FIRST_QUEUED.get(turn as usize).copied();
-        if alone && turn == passes && first == Some(first_queued(hand)) {
-            self.right.fetch_add(1, Ordering::SeqCst);
+    fn pass(&self, cpu: CpuId, turn: u64, home: &Home) {
+        match (cpu.0, turn) {
+            (1, 1) => self.came.store(true, Ordering::SeqCst),
+            (0, 0) => self.wait(),
+            _ => {}
         }
     }
 }
@@ -168,29 +128,6 @@ fn is_side_by_side<R: Threads + Wait + Sync + AllocGlobal>(rt: &R) -> Result<boo
 #[test]
 fn two_threads_of_the_host_run_side_by_side(rt: HostRuntime) {
     is_so(&rt, is_side_by_side(&rt));
-}
-
-/// The run of the two threads that yield ends well with this gate.
-fn is_passed<R: Threads + Wait + Sync + AllocGlobal>(
-    rt: &R,
-    gate: &Reader,
-) -> Result<bool, AllocError> {
-    let called = run(rt, YIELD, gate)?;
-    Ok(called.status == 0)
-}
-
-/// The home is read in each of nine turns.
-fn is_read<R: Threads + Wait + Sync + AllocGlobal>(rt: &R) -> Result<bool, AllocError> {
-    let gate = Reader {
-        passes: AtomicU64::new(0),
-        right: AtomicU64::new(0),
-    };
-    Ok(is_passed(rt, &gate)? && gate.right.load(Ordering::SeqCst) == 9)
-}
-
-#[test]
-fn homes_are_taken_one_by_one(rt: HostRuntime) {
-    is_so(&rt, is_read(&rt));
 }
 
 /// The run in which a thread spins ends well, and what it prints is audited.

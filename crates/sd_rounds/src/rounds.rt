@@ -14,6 +14,7 @@ ghost use Rattle.sd_world.specs.Worlds.{Begins};
 use crate::orders::{RoundOrder, draw_order, first_generator, rising};
 use crate::sight::Searched;
 use crate::turns::take_turn;
+use sd_cpu::{Gate, pass_gate};
 use sd_log::EntryLog;
 use sd_state::State;
 use sd_types::{CpuId, MOST_ENTRIES, Stop, Work};
@@ -27,11 +28,32 @@ pub struct Finished {
     pub entries: EntryLog,
 }
 
-/// One round: each processor of the order has a turn. `Full` only where the entries with those of this round
+/// Processor `c` passes the gate, in the round of this number. Before these rounds it had so many turns, or none where the list does not
+/// say.
+#[inline(always)]
+fn pass<G: Gate>(gate: &G, world: &PlainWorld, before: &[u64], round: u64, c: CpuId) {
+    if gate.is_open() {
+        return;
+    }
+    let first = before.get(c.0 as usize).copied().unwrap_or(0);
+    if let Some(actor) = world.actors.get(c.0 as usize) {
+        pass_gate(
+            gate,
+            first.saturating_add(round),
+            *actor,
+            &world.acting.hand,
+        );
+    }
+}
+
+/// One round: each processor of the order passes the gate and has a turn. `Full` only where the entries with those of this round
 /// are 2^40 or more. Memory runs out only where the log holds fewer. No processor's count is below the floor, and there is nothing to steal in the
 /// set that was searched, before and after. It is inline in the loops over rounds, since a round of one processor is a turn.
 #[inline(always)]
-fn run_round(
+fn run_round<G: Gate>(
+    gate: &G,
+    before: &[u64],
+    number: u64,
     work: &Work,
     world: &mut PlainWorld,
     floor: &mut u32,
@@ -57,6 +79,7 @@ fn run_round(
     ensures searched { IsSearched (told work.now world.new) searched.new }
 {
     for c in order {
+        pass(gate, world, before, number, *c);
         if let Err(stop) = take_turn(work, world, floor, searched, *c) {
             return Err(stop);
         }
@@ -78,11 +101,16 @@ fn finish(alloc: Global, work: &Work, world: PlainWorld) -> Result<Finished, Sto
     Ok(Finished { state, entries })
 }
 
-/// The run of the workload that goes in rounds, in which the processors take turns so. `Full` only where it has 2^40
+/// The run of the workload that goes in rounds, in which the processors take turns so, and pass the gate in each. `Full` only where it has 2^40
 /// entries or more, and then it is never returned whole: what `Memory` may stand for instead of a run or of `Full` is
 /// only that memory ran out.
 #[inline(never)]
-pub fn run_rounds(alloc: Global, work: &Work, orders: RoundOrder) -> Result<Finished, Stop>
+pub fn run_rounds<G: Gate>(
+    alloc: Global,
+    work: &Work,
+    orders: RoundOrder,
+    gate: &G,
+) -> Result<Finished, Stop>
     ensures serial { IfOk result (λ r. IsSerial work.now (orders_of work.now orders) r.entries.items) }
     ensures run { IfOk result (λ r. IsRun work.now r.entries.items) }
     ensures complete { IfOk result (λ r. IsComplete work.now r.state) }
@@ -99,10 +127,14 @@ pub fn run_rounds(alloc: Global, work: &Work, orders: RoundOrder) -> Result<Fini
     let mut order = rising(work);
     let mut floor = 0;
     let mut searched = None;
+    let mut number = 0u64;
     'rounds: loop {
         let before = world.entries.len();
         draw_order(work, &mut generator, &mut order);
         if let Err(stop) = run_round(
+            gate,
+            &[],
+            number,
             work,
             &mut world,
             &mut floor,
@@ -114,14 +146,22 @@ pub fn run_rounds(alloc: Global, work: &Work, orders: RoundOrder) -> Result<Fini
         if world.entries.len() == before {
             break 'rounds;
         }
+        number = number.saturating_add(1);
     }
     finish(alloc, work, world)
 }
 
-/// A run that goes on, from the entries that the world has, in rounds of rising order until one makes no entry: a complete one. `Full`
+/// A run that goes on, from the entries that the world has, in rounds of rising order until one makes no entry: a complete one. The
+/// processors pass the gate in each of their turns; before these they had so many, in the order of their numbers, as `turns` says. `Full`
 /// only where a run of the workload has 2^40 entries or more; what `Memory` stands for is only that memory ran out.
 #[inline(never)]
-pub fn run_to_end(alloc: Global, work: &Work, world: PlainWorld) -> Result<Finished, Stop>
+pub fn run_to_end<G: Gate>(
+    alloc: Global,
+    work: &Work,
+    world: PlainWorld,
+    gate: &G,
+    turns: &[u64],
+) -> Result<Finished, Stop>
     requires stands { Stands work.now world }
     requires work { world.work.now ≡ work.now }
     ensures run { IfOk result (λ r. IsRun work.now r.entries.items) }
@@ -139,9 +179,13 @@ pub fn run_to_end(alloc: Global, work: &Work, world: PlainWorld) -> Result<Finis
     let order = rising(work);
     let mut floor = 0;
     let mut searched = None;
+    let mut number = 0u64;
     'rounds: loop {
         let so_far = world.entries.len();
         if let Err(stop) = run_round(
+            gate,
+            turns,
+            number,
             work,
             &mut world,
             &mut floor,
@@ -153,6 +197,7 @@ pub fn run_to_end(alloc: Global, work: &Work, world: PlainWorld) -> Result<Finis
         if world.entries.len() == so_far {
             break 'rounds;
         }
+        number = number.saturating_add(1);
     }
     finish(alloc, work, world)
 }

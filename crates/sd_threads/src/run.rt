@@ -1,6 +1,6 @@
 //! The whole run: the table is opened, phases follow one another, it is closed, and rounds end the run.
 
-ghost use Rattle.std.specs.Prelude.{◌≡◌, ℕ, ◌<◌, ◌≤◌, length, IfErr, IfOk, IsErrOf};
+ghost use Rattle.std.specs.Prelude.{◌≡◌, ℕ, ◌<◌, ◌≤◌, length, map, IfErr, IfOk, IsErrOf};
 ghost use Rattle.sd_machine.specs.Runs.{IsComplete, IsRun, final, state_at};
 ghost use Rattle.sd_hand.specs.OneHome.{StandsInHomes};
 ghost use Rattle.sd_state.specs.Opening.{opening};
@@ -44,9 +44,20 @@ fn seats_of(alloc: Global, jobs: Vec<Job>) -> Result<Vec<Seat>, AllocError>
     Ok(seats)
 }
 
+/// How many turns each of them has had.
+fn turns_of(alloc: Global, jobs: &[Job]) -> Result<Vec<u64>, AllocError>
+    ensures { IfOk result (λ v. v.items ≡ map (λ j. j.turn) jobs.now) }
+{
+    let mut turns = Vec::new(alloc);
+    for job in jobs {
+        turns.push(job.turn)?;
+    }
+    Ok(turns)
+}
+
 /// A run of the workload, whose processors act side by side on threads of the host, where threads can be made: a complete legal run, with
 /// the state at its end. Which of these runs it is depends on how the threads go. `Full` only where a run of the workload has 2^40
-/// entries or more; what `Memory` stands for is only that memory ran out.
+/// entries or more; what `Memory` stands for is only that memory ran out. Each processor passes the gate in each of its turns.
 pub fn run_on_threads<R: Threads + Wait + Sync, G: Gate + Sync>(
     rt: &R,
     alloc: Global,
@@ -67,11 +78,14 @@ pub fn run_on_threads<R: Threads + Wait + Sync, G: Gate + Sync>(
         return Err(Stop::Memory);
     };
     let jobs = run_phases(rt, gate, &shared, work, jobs)?;
+    let Ok(turns) = turns_of(alloc, &jobs) else {
+        return Err(Stop::Memory);
+    };
     let Ok(seats) = seats_of(alloc, jobs) else {
         return Err(Stop::Memory);
     };
     match shared.close(alloc, work, seats) {
-        Ok(world) => run_to_end(alloc, work, world),
+        Ok(world) => run_to_end(alloc, work, world, gate, &turns),
         Err(_) => Err(Stop::Memory),
     }
 }

@@ -1,10 +1,11 @@
 use Rattle.std.proofs.Common.{sym, ◌∙◌, arith}
 use Rattle.sd_cpu.proofs.MeaningLemmas.{looks_same}
+use Rattle.sd_cpu.proofs.GateLemmas.{passed_more, passed_still}
 use Rattle.sd_cpu.proofs.SeekLemmas as S
 use Rattle.sd_cpu.proofs.seeking.find_course.Goals as goal
 
 pub seeking-init : goal.seeking-init
-seeking-init g c = record { good = c.requires.good; looks = looks_same (g.W.World.meaning c.args.world.now); holds = c.requires.holds }
+seeking-init g c = record { good = c.requires.good; looks = looks_same (g.W.World.meaning c.args.world.now); holds = c.requires.holds; passed = c.pass_once.ensures }
 
 pub fetch-requires-clause-can : goal.fetch-requires-clause-can
 fetch-requires-clause-can g c =
@@ -15,6 +16,13 @@ fetch-requires-clause-can g c =
 pub returns-then-not-fetch-clause-finds : goal.returns-then-not-fetch-clause-finds
 returns-then-not-fetch-clause-finds g c =
     S.stopped_more (g.W.World.meaning c.args.world.now) (g.W.World.meaning c.seeking.world) (g.W.World.meaning c.fetch.new.world) c.in-Err.part c.seeking.invariant.looks c.if-not-fetch.ensures.fetches
+
+pub returns-then-not-fetch-clause-passes : goal.returns-then-not-fetch-clause-passes
+returns-then-not-fetch-clause-passes g c =
+    passed_still (g.W.World.meaning c.seeking.world).acting (g.W.World.meaning c.fetch.new.world).acting c.args.passed.now c.seeking.passed c.if-not-fetch.ensures.fetches.acting c.seeking.invariant.passed
+
+pub returns-in-Ok-clause-passes : goal.returns-in-Ok-clause-passes
+returns-in-Ok-clause-passes g c = c.seeking.invariant.passed
 
 pub returns-in-Ok-clause-finds : goal.returns-in-Ok-clause-finds
 returns-in-Ok-clause-finds g c =
@@ -45,4 +53,5 @@ seeking-preserved g c =
       looks = S.looks_more (g.W.World.meaning c.args.world.now) m (g.W.World.meaning c.fetch.new.world) c.in-Err.part good inv.looks c.if-not-fetch.ensures.fetches;
       holds = S.more_to_read m (g.W.World.meaning c.fetch.new.world) c.in-Err.part good c.if-not-fetch.ensures.fetches
           (S.read_among m good c.args.work.now (c.requires.work ∙ sym inv.looks.stays.work) c.acting.result.now c.acting.ensures c.in-Err.part c.in-Err.ensures.lack.0) inv.holds;
+      passed = passed_more m (g.W.World.meaning c.fetch.new.world) c.in-Err.part c.args.passed.now c.seeking.passed c.pass_once-in-Err.result c.if-not-fetch.ensures.fetches inv.passed c.pass_once-in-Err.ensures;
     }

@@ -26,7 +26,7 @@ run_ok w orders (Ok x) short serial run complete state homes =
 run_ok w orders (Err stop) short serial run complete state homes = tt
 
 pub returns-clause-run : goal.returns-clause-run
-returns-clause-run c =
+returns-clause-run g c =
     let e = c.run_rounds.ensures in
     let w = c.args.work.now in
     let r = c.run_rounds.result in
@@ -34,5 +34,5 @@ returns-clause-run c =
     (run_ok w c.in-Rounds.orders r e.short e.serial e.run e.complete e.state e.homes)
 
 pub returns-clause-full : goal.returns-clause-full
-returns-clause-full c full =
+returns-clause-full g c full =
     subst (λ (m : Mode). IsLong c.args.work.now m) (sym c.in-Rounds.is) (c.run_rounds.ensures.full full)

@@ -8,7 +8,7 @@ use Rattle.sd_rounds.proofs.RoundLemmas.{grows, round_on, entries_over}
 use Rattle.sd_rounds.proofs.rounds.run_round.Goals as goal
 
 pub loop-c-preserved : goal.loop-c-preserved
-loop-c-preserved c =
+loop-c-preserved g c =
     let w = c.args.work.now in
     let order = c.args.order.now in
     let l = c.loop-c in
@@ -31,9 +31,9 @@ loop-c-preserved c =
     }
 
 pub returns-clause-entries : goal.returns-clause-entries
-returns-clause-entries c =
+returns-clause-entries g c =
     let x = c.loop-c.world in
     entries_over c.args.work.now c.args.order.now c.loop-c.c-index (told c.args.work.now x) x.entries.items _ c.loop-c-test.false c.loop-c.invariant.entries
 
 pub returns-clause-begins : goal.returns-clause-begins
-returns-clause-begins c = λ some. c.loop-c.invariant.begins (omega arith)
+returns-clause-begins g c = λ some. c.loop-c.invariant.begins (omega arith)

@@ -8,7 +8,7 @@ use Rattle.sd_rounds.proofs.rounds.run_round.Given as goal
 
 -- what was made, and what is left of the round from here, are what was there and the whole round
 abbrev pub invariant-loop-c : goal.invariant-loop-c
-invariant-loop-c l = record {
+invariant-loop-c g l = record {
   stands : Stands l.work l.world;
   work : l.world.work.now ≡ l.work;
   entries : l.world.entries.items ++ round l.work (told l.work l.world) (length l.world.entries.items) (drop l.c-index l.order)

@@ -15,7 +15,7 @@ use Rattle.sd_rounds.proofs.RoundLemmas.{no_rounds, one_round_more, long_serial,
 use Rattle.sd_rounds.proofs.rounds.run_rounds.Goals as goal
 
 pub rounds-init : goal.rounds-init
-rounds-init c =
+rounds-init g c =
     let w = c.args.work.now in
     let none = c.in-Ok.ensures.entries in
     record {
@@ -31,7 +31,7 @@ rounds-init c =
     }
 
 pub returns-in-Err-clause-full : goal.returns-in-Err-clause-full
-returns-in-Err-clause-full c = λ x.
+returns-in-Err-clause-full g c = λ x.
     let w = c.args.work.now in
     let r = c.rounds in
     let order = orders_of w c.args.orders r.invariant.count in
@@ -44,7 +44,7 @@ returns-in-Err-clause-full c = λ x.
     (subst (λ (o : List CpuId). 2 ^ 40 ≤ length (r.world.entries.items ++ round w (told w r.world) (length r.world.entries.items) o)) is many)
 
 pub rounds-preserved : goal.rounds-preserved
-rounds-preserved c =
+rounds-preserved g c =
     let w = c.args.work.now in
     let r = c.rounds in
     let order = orders_of w c.args.orders r.invariant.count in
@@ -66,8 +66,8 @@ rounds-preserved c =
     }
 
 -- the run that was made goes in rounds
-made_serial : (c : goal.After-finish) → IsSerial c.args.work.now (orders_of c.args.work.now c.args.orders) c.run_round.new.world.entries.items
-made_serial c =
+made_serial : (g : _) (c : goal.After-finish g) → IsSerial c.args.work.now (orders_of c.args.work.now c.args.orders) c.run_round.new.world.entries.items
+made_serial g c =
     let w = c.args.work.now in
     let r = c.rounds in
     let order = orders_of w c.args.orders r.invariant.count in
@@ -78,8 +78,8 @@ made_serial c =
     is_over w (orders_of w c.args.orders) r.invariant.count (told w r.world) r.world.entries.items c.run_round.new.world.entries.items r.invariant.rounds refl made
     (let same = c.if-len-before.true in omega (arith, same))
 
-made_short : (c : goal.After-finish) → length c.run_round.new.world.entries.items < 2 ^ 40
-made_short c =
+made_short : (g : _) (c : goal.After-finish g) → length c.run_round.new.world.entries.items < 2 ^ 40
+made_short g c =
     let w = c.args.work.now in
     let r = c.rounds in
     let order = orders_of w c.args.orders r.invariant.count in
@@ -93,31 +93,31 @@ made_short c =
     omega (arith, few, same)
 
 pub returns-clause-serial : goal.returns-clause-serial
-returns-clause-serial c = finished c.finish.result c.run_round.new.world.entries.items (IsSerial c.args.work.now (orders_of c.args.work.now c.args.orders)) c.finish.ensures.entries (made_serial c)
+returns-clause-serial g c = finished c.finish.result c.run_round.new.world.entries.items (IsSerial c.args.work.now (orders_of c.args.work.now c.args.orders)) c.finish.ensures.entries (made_serial g c)
 
 pub returns-clause-run : goal.returns-clause-run
-returns-clause-run c = finished c.finish.result c.run_round.new.world.entries.items (IsRun c.args.work.now) c.finish.ensures.entries c.in_default-run_round.ensures.stands.run
+returns-clause-run g c = finished c.finish.result c.run_round.new.world.entries.items (IsRun c.args.work.now) c.finish.ensures.entries c.in_default-run_round.ensures.stands.run
 
 pub returns-clause-state : goal.returns-clause-state
-returns-clause-state c = finished_state c.args.work.now c.finish.result c.run_round.new.world.entries.items c.finish.ensures.entries c.finish.ensures.state
+returns-clause-state g c = finished_state c.args.work.now c.finish.result c.run_round.new.world.entries.items c.finish.ensures.entries c.finish.ensures.state
 
 pub returns-clause-complete : goal.returns-clause-complete
-returns-clause-complete c =
+returns-clause-complete g c =
     let w = c.args.work.now in
-    finished_complete w c.finish.result (told w c.run_round.new.world) c.finish.ensures.state (complete_of w c.args.orders c.run_round.new.world.entries.items (made_serial c))
+    finished_complete w c.finish.result (told w c.run_round.new.world) c.finish.ensures.state (complete_of w c.args.orders c.run_round.new.world.entries.items (made_serial g c))
 
 pub returns-clause-homes : goal.returns-clause-homes
-returns-clause-homes c =
+returns-clause-homes g c =
     let w = c.args.work.now in
     finished c.finish.result c.run_round.new.world.entries.items (λ es. (k : ℕ) → k ≤ length es → StandsInHomes k (state_at w es k)) c.finish.ensures.entries
     (all_stood w c.run_round.new.world c.in_default-run_round.ensures.stands)
 
 pub returns-clause-short : goal.returns-clause-short
-returns-clause-short c = finished c.finish.result c.run_round.new.world.entries.items (λ es. length es < 2 ^ 40) c.finish.ensures.entries (made_short c)
+returns-clause-short g c = finished c.finish.result c.run_round.new.world.entries.items (λ es. length es < 2 ^ 40) c.finish.ensures.entries (made_short g c)
 
 pub returns-clause-full : goal.returns-clause-full
-returns-clause-full c = not_full c.finish.result c.finish.ensures.memory
+returns-clause-full g c = not_full c.finish.result c.finish.ensures.memory
 
 pub returns-clause-no_longer : goal.returns-clause-no_longer
-returns-clause-no_longer c =
-    whenever c.finish.result (no_longer c.args.work.now (orders_of c.args.work.now c.args.orders) c.run_round.new.world.entries.items (made_serial c) (made_short c))
+returns-clause-no_longer g c =
+    whenever c.finish.result (no_longer c.args.work.now (orders_of c.args.work.now c.args.orders) c.run_round.new.world.entries.items (made_serial g c) (made_short g c))

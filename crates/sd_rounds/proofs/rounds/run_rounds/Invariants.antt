@@ -9,7 +9,7 @@ use Rattle.sd_rounds.specs.Searched.{IsSearched}
 use Rattle.sd_rounds.proofs.rounds.run_rounds.Given as goal
 
 abbrev pub invariant-rounds : goal.invariant-rounds
-invariant-rounds l = record {
+invariant-rounds g l = record {
   count : ℕ;
   rounds : HasRounds l.work (orders_of l.work l.fn.orders) count l.world.entries.items;
   generator : l.generator ≡ generator_at l.work l.fn.orders count;
@@ -23,4 +23,4 @@ invariant-rounds l = record {
 
 -- each round that goes on adds an entry, and a log holds at most MOST_ENTRIES
 abbrev pub decreases-rounds : goal.decreases-rounds
-decreases-rounds l = MOST_ENTRIES - length l.world.entries.items
+decreases-rounds g l = MOST_ENTRIES - length l.world.entries.items

@@ -13,43 +13,43 @@ use Rattle.sd_rounds.proofs.OrderLemmas.{order_length}
 use Rattle.sd_rounds.proofs.RoundLemmas.{none_more}
 use Rattle.sd_rounds.proofs.rounds.run_to_end.Goals as goal
 
-same_order : (c : goal.After-finish) → c.as_slice.result.now ≡ rising c.args.work.now
-same_order c = c.as_slice.ensures.value ∙ c.rising-order.ensures
+same_order : (g : _) (c : goal.After-finish g) → c.as_slice.result.now ≡ rising c.args.work.now
+same_order g c = c.as_slice.ensures.value ∙ c.rising-order.ensures
 
-as_long : (c : goal.After-finish) → length c.run_round.new.world.entries.items ≡ length c.rounds.world.entries.items
-as_long c = let same = c.if-len-so_far.true in omega (arith, same)
+as_long : (g : _) (c : goal.After-finish g) → length c.run_round.new.world.entries.items ≡ length c.rounds.world.entries.items
+as_long g c = let same = c.if-len-so_far.true in omega (arith, same)
 
-nothing : (c : goal.After-finish) → round c.args.work.now (told c.args.work.now c.rounds.world) (length c.rounds.world.entries.items) (rising c.args.work.now) ≡ []
-nothing c =
+nothing : (g : _) (c : goal.After-finish g) → round c.args.work.now (told c.args.work.now c.rounds.world) (length c.rounds.world.entries.items) (rising c.args.work.now) ≡ []
+nothing g c =
     let w = c.args.work.now in
     let x = c.rounds.world in
-    let made = c.in_default.ensures.entries ∙ ap (λ (o : List CpuId). x.entries.items ++ round w (told w x) (length x.entries.items) o) (same_order c) in
-    none_more (round w (told w x) (length x.entries.items) (rising w)) x.entries.items c.run_round.new.world.entries.items made (as_long c)
+    let made = c.in_default.ensures.entries ∙ ap (λ (o : List CpuId). x.entries.items ++ round w (told w x) (length x.entries.items) o) (same_order g c) in
+    none_more (round w (told w x) (length x.entries.items) (rising w)) x.entries.items c.run_round.new.world.entries.items made (as_long g c)
 
-same_entries : (c : goal.After-finish) → c.run_round.new.world.entries.items ≡ c.rounds.world.entries.items
-same_entries c =
+same_entries : (g : _) (c : goal.After-finish g) → c.run_round.new.world.entries.items ≡ c.rounds.world.entries.items
+same_entries g c =
     let w = c.args.work.now in
     let x = c.rounds.world in
-    c.in_default.ensures.entries ∙ ap (λ (o : List CpuId). x.entries.items ++ round w (told w x) (length x.entries.items) o) (same_order c)
-    ∙ ap (λ (more : List Entry). x.entries.items ++ more) (nothing c) ∙ append-nil x.entries.items
+    c.in_default.ensures.entries ∙ ap (λ (o : List CpuId). x.entries.items ++ round w (told w x) (length x.entries.items) o) (same_order g c)
+    ∙ ap (λ (more : List Entry). x.entries.items ++ more) (nothing g c) ∙ append-nil x.entries.items
 
 pub returns-clause-complete : goal.returns-clause-complete
-returns-clause-complete c =
+returns-clause-complete g c =
     let w = c.args.work.now in
     finished_complete w c.finish.result (told w c.run_round.new.world) c.finish.ensures.state
-    (subst (λ (es : List Entry). IsComplete w (final w (opening w) es)) (sym (same_entries c)) (complete_after w Rising 0 c.rounds.world.entries.items (nothing c)))
+    (subst (λ (es : List Entry). IsComplete w (final w (opening w) es)) (sym (same_entries g c)) (complete_after w Rising 0 c.rounds.world.entries.items (nothing g c)))
 
 pub returns-clause-homes : goal.returns-clause-homes
-returns-clause-homes c =
+returns-clause-homes g c =
     let w = c.args.work.now in
     finished c.finish.result c.run_round.new.world.entries.items (λ es. (k : ℕ) → k ≤ length es → StandsInHomes k (state_at w es k)) c.finish.ensures.entries
     (all_stood w c.run_round.new.world c.in_default.ensures.stands)
 
 pub returns-clause-short : goal.returns-clause-short
-returns-clause-short c =
+returns-clause-short g c =
     let w = c.args.work.now in
     let some = w.some_cpu in
-    let many : length c.as_slice.result.now ≡ w.cpus = ap length (same_order c) ∙ order_length w Rising 0 in
+    let many : length c.as_slice.result.now ≡ w.cpus = ap length (same_order g c) ∙ order_length w Rising 0 in
     let few = c.in_default.ensures.begins (let h : 0 < length c.as_slice.result.now = omega (arith, some, many) in h) in
-    let same = as_long c in
+    let same = as_long g c in
     finished c.finish.result c.run_round.new.world.entries.items (λ es. length es < 2 ^ 40) c.finish.ensures.entries (omega (arith, few, same))

@@ -7,7 +7,7 @@ use Rattle.sd_rounds.specs.Searched.{IsSearched}
 use Rattle.sd_rounds.proofs.rounds.run_to_end.Given as goal
 
 abbrev pub invariant-rounds : goal.invariant-rounds
-invariant-rounds l = record {
+invariant-rounds g l = record {
   stands : Stands l.work l.world;
   work : l.world.work.now ≡ l.work;
   begins : Begins l.initial.world.entries.items l.world.entries.items;
@@ -18,4 +18,4 @@ invariant-rounds l = record {
 
 -- each round that goes on adds an entry, and a log holds at most MOST_ENTRIES
 abbrev pub decreases-rounds : goal.decreases-rounds
-decreases-rounds l = MOST_ENTRIES - length l.world.entries.items
+decreases-rounds g l = MOST_ENTRIES - length l.world.entries.items

@@ -1,6 +1,6 @@
 use Rattle.std.proofs.Common.{sym, subst}
 use Rattle.sd_cpu.specs.Seeking.{CanFetch, Fetches}
-use Rattle.sd_cpu.proofs.seeking.take_part.Goals as goal
+use Rattle.sd_cpu.proofs.seeking.fetch.Goals as goal
 
 pub take_home-requires-clause-can : goal.take_home-requires-clause-can
 take_home-requires-clause-can g c = subst (CanFetch _) c.in-Home.is c.requires.can
