@@ -10,10 +10,10 @@ use sd_types::{Stop, Work};
 use sd_world::World;
 use std::sync::Wait;
 
-/// A phase: whether it made entries, and its last turn, which ticked or made none.
+/// A phase: how many entries it made, which stays at the greatest `u64`, and its last turn, which ticked or made none.
 #[derive(Clone, Copy)]
 pub struct Phased {
-    pub made: bool,
+    pub entries: u64,
     pub end: Turned,
 }
 
@@ -32,19 +32,22 @@ pub fn phase<R: Wait, W: World, G: Gate>(
     ensures good { W.good world.new }
     ensures empty { IsEmpty (W.meaning world.new) }
     ensures world { IsSameWorld (W.meaning world.old) (W.meaning world.new) }
-    ensures answers { PhaseAnswers (W.meaning world.old) (W.meaning world.new) result }
+    ensures answers { PhaseAnswers (W.meaning world.old) (W.meaning world.new) number.old number.new result }
 {
-    let mut made = false;
+    let mut entries = 0u64;
     for _ in rt.forever() {
         let turned = turn(rt, world, gate, work, *number);
         *number = number.saturating_add(1);
         match turned {
             Err(stop) => return Err(stop),
             Ok(end) => match end {
-                Turned::Acted { .. } => made = true,
-                Turned::Ticked { .. } => return Ok(Phased { made: true, end }),
-                Turned::Behind { .. } => return Ok(Phased { made, end }),
-                Turned::Finished => return Ok(Phased { made, end }),
+                Turned::Acted { .. } => entries = entries.saturating_add(1),
+                Turned::Ticked { .. } => {
+                    entries = entries.saturating_add(1);
+                    return Ok(Phased { entries, end });
+                }
+                Turned::Behind { .. } => return Ok(Phased { entries, end }),
+                Turned::Finished => return Ok(Phased { entries, end }),
             },
         }
     }

@@ -1,6 +1,7 @@
 -- Processors between two phases.
 use Rattle.std.proofs.Common.{◌≡◌, ℕ, zero, suc, ◌+◌, ◌^◌, ◌<◌, ◌≤◌, ◌⊎◌, Bool, true, false, length-append, Ok, List, [], ◌∷◌, ◌++◌, length, get_or, slice_get, Some, Result, Err, refl, sym, ap, ◌∙◌, subst, arith}
-use Rattle.std.specs.Prelude.{◌||◌, nat_lt, slice_index_or}
+use Rattle.std.specs.Prelude.{◌-◌, ◌||◌, min, nat_lt, slice_index_or}
+use Rattle.std.proofs.Math.Nat.{le-min}
 use Rattle.std.proofs.lemmas.Bool.Decides.{nat_tests}
 use Rattle.std.proofs.lemmas.List.{get_or_default}
 use Rattle.atomic_table.specs.Seated.{TableId}
@@ -14,7 +15,7 @@ use Rattle.sd_cpu.specs.Attempts.{IsEmpty, IsSameWorld, MakesOne, Refuses}
 use Rattle.sd_cpu.specs.declared.attempts.Turned.{Turned}
 use Rattle.sd_cpu.specs.declared.attempts.Turned.TheVariants.{Acted, Ticked, Behind, Finished}
 use Rattle.sd_cpu.specs.declared.phases.Phased.{Phased}
-use Rattle.sd_cpu.specs.Phases.{ActsOften, Ends, PhaseAnswers, Stops}
+use Rattle.sd_cpu.specs.Phases.{ActsOften, Ends, PhaseAnswers, Stops, raised}
 use Rattle.sd_shared_rule.specs.Ledgers.{by}
 use Rattle.sd_shared_table.specs.declared.seat.Seat.{Seat}
 use Rattle.sd_shared_table.specs.Seats.{Fits, desk, id_of, work_of}
@@ -53,21 +54,33 @@ more_than n (suc k) = grind (arith, nat_tests)
 less_is : (a b : ℕ) → a < b → true ≡ nat_lt a b
 less_is a b less = grind (arith, nat_tests)
 
-pub made_as_logged : (m m' : Meaning) (r : Result Phased Stop) → PhaseAnswers m m' r → MadeAsLogged (length m.log) (length m'.log) r
+-- what counts entries is above 0 exactly where some were made
+some_raised : (k : ℕ) → nat_lt 0 (raised 0 (suc k)) ≡ true
+some_raised k =
+    let one : 1 ≤ raised 0 k + 1 = omega arith in
+    let most : 1 ≤ 2 ^ 64 - 1 = omega arith in
+    let least : 1 ≤ min (raised 0 k + 1) (2 ^ 64 - 1) = le-min one most in
+    grind (arith, nat_tests)
+
+as_raised : (k : ℕ) → nat_lt 0 (raised 0 k) ≡ nat_lt 0 k
+as_raised zero = refl
+as_raised (suc k) = some_raised k ∙ (let z : true ≡ nat_lt 0 (suc k) = grind (arith, nat_tests) in z)
+
+pub made_as_logged : {n n' : ℕ} (m m' : Meaning) (r : Result Phased Stop) → PhaseAnswers m m' n n' r → MadeAsLogged (length m.log) (length m'.log) r
 made_as_logged m m' (Err stop) a = tt
-made_as_logged m m' (Ok p) a = ends p.made p.end a.stops
+made_as_logged m m' (Ok p) a = ends p.entries p.end a.stops
   where
     acted : length a.last.log ≡ length m.log + a.count
     acted = some_more a.count m a.last a.acts
 
-    idle : (made : Bool) → m'.log ≡ a.last.log → made ≡ nat_lt 0 a.count → made ≡ nat_lt (length m.log) (length m'.log)
-    idle made same is = is ∙ (more_than (length m.log) a.count ∙ ap (nat_lt (length m.log)) (sym (ap length same ∙ acted)))
+    idle : (entries : ℕ) → m'.log ≡ a.last.log → entries ≡ raised 0 a.count → nat_lt 0 entries ≡ nat_lt (length m.log) (length m'.log)
+    idle entries same is = ap (nat_lt 0) is ∙ (as_raised a.count ∙ (more_than (length m.log) a.count ∙ ap (nat_lt (length m.log)) (sym (ap length same ∙ acted))))
 
-    ends : (made : Bool) (t : Turned) → Ends a.last m' a.count made t → made ≡ nat_lt (length m.log) (length m'.log)
-    ends made (Acted n) is = absurd is
-    ends made (Ticked n) is = let one = one_more a.last m' n true is.0 in is.1 ∙ less_is (length m.log) (length m'.log) (omega (arith, one, acted))
-    ends made (Behind c n) is = idle made is.0.0.idles.log is.1
-    ends made Finished is = idle made is.0.0.idles.log is.1
+    ends : (entries : ℕ) (t : Turned) → Ends a.last m' a.count entries t → nat_lt 0 entries ≡ nat_lt (length m.log) (length m'.log)
+    ends entries (Acted n) is = absurd is
+    ends entries (Ticked n) is = let one = one_more a.last m' n true is.0 in ap (nat_lt 0) is.1 ∙ (some_raised a.count ∙ less_is (length m.log) (length m'.log) (omega (arith, one, acted)))
+    ends entries (Behind c n) is = idle entries is.0.0.idles.log is.1
+    ends entries Finished is = idle entries is.0.0.idles.log is.1
 
 pub outcome_is : (a b : Result Phased Stop) → Some a ≡ Some b → a ≡ b
 outcome_is a b e = cc
@@ -82,7 +95,7 @@ module _ (t : TableId) (w : Work) (x y : TableWorld) (table : id_of x.shared.now
   pub free_back : IsEmpty (world_meaning y) → IsEmptyHanded t w y.seat
   free_back empty = record { fits = fits_back; free = empty refl }
 
-  pub full_long : (r : Result Phased Stop) → r ≡ Err Full → PhaseAnswers (world_meaning x) (world_meaning y) r → IsLongRun w
+  pub full_long : {n n' : ℕ} (r : Result Phased Stop) → r ≡ Err Full → PhaseAnswers (world_meaning x) (world_meaning y) n n' r → IsLongRun w
   full_long r e answers =
       let refused : Refuses answers.last (world_meaning y) Full = subst (Stops answers.last (world_meaning y) answers.count) e answers.stops in
       let log = ap length refused.0.log in

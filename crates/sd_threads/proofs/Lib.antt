@@ -1,5 +1,4 @@
 pub mod AsWorld
-pub mod Interlocking
 pub mod JobLemmas
 pub mod Listed
 pub mod Locking

@@ -17,9 +17,13 @@ pub record IsEmptyHanded (t : TableId) (w : Work) (s : Seat) : Type 0 where
   pub fits : Fits t w s
   pub free : how_many_held s.acting.hand.slots ≡ 0
 
+-- it made entries
+abbrev pub made_some : Phased → Bool
+made_some p = nat_lt 0 p.entries
+
 -- where a phase was not refused, it made entries exactly where the log has more of them after it
 abbrev pub MadeAsLogged : ℕ → ℕ → Result Phased Stop → Type 0
-MadeAsLogged before after (Ok p) = p.made ≡ nat_lt before after
+MadeAsLogged before after (Ok p) = made_some p ≡ nat_lt before after
 MadeAsLogged before after (Err stop) = ⊤
 
 -- the processor had a phase: it holds no home again, and was refused for its length only where a run is that long
@@ -50,13 +54,13 @@ pub record WasStopped (js : List Job) (stop : Stop) : Type 0 where
 
 -- its last phase made entries
 abbrev pub HasActed : Option (Result Phased Stop) → Type 0
-HasActed (Some (Ok p)) = p.made ≡ true
+HasActed (Some (Ok p)) = made_some p ≡ true
 HasActed _ = ⊥
 
 -- its last phase was not refused, and made none
 abbrev pub HasRested : Option (Result Phased Stop) → Type 0
 HasRested (Some (Err stop)) = ⊥
-HasRested (Some (Ok p)) = p.made ≡ false
+HasRested (Some (Ok p)) = made_some p ≡ false
 HasRested None = ⊤
 
 -- whether it made any

@@ -1,4 +1,3 @@
-pub mod Interlocks
 pub mod Jobs
 pub mod Locks
 pub mod Tables

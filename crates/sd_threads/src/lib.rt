@@ -4,14 +4,12 @@
 //! Source: this project's own.
 #![tactic(auto)]
 
-mod interlocks;
 mod jobs;
 mod phases;
 mod run;
 mod threads;
 mod world;
 
-pub use interlocks::{Interlock, try_interlock};
 pub use run::run_on_threads;
 pub use threads::try_lock_thread;
 pub use world::TableWorld;

@@ -48,7 +48,7 @@ fn has_acted(job: &Job) -> Result<bool, Stop>
         None => Ok(false),
         Some(outcome) => match outcome {
             Err(stop) => Err(stop),
-            Ok(phased) => Ok(phased.made),
+            Ok(phased) => Ok(phased.entries > 0),
         },
     }
 }

@@ -6,7 +6,7 @@ use Rattle.sd_cpu.proofs.phases.phase.Goals as goal
 pub loop-init : goal.loop-init
 loop-init g c =
     let m = g.W.World.meaning c.args.world.now in
-    record { can = search rules; ends = search rules; good = c.requires.good; empty = c.requires.empty; same = P.world_same m; acts = P.none_acted m }
+    record { can = search rules; ends = search rules; good = c.requires.good; empty = c.requires.empty; same = P.world_same m; acts = P.none_acted m c.args.number.now }
 
 pub turn-turned-requires-clause-good : goal.turn-turned-requires-clause-good
 turn-turned-requires-clause-good g c = c.loop.invariant.good
@@ -22,8 +22,8 @@ returns-in-Err-clause-world g c = world_then (g.W.World.meaning c.args.world.now
 
 pub returns-in-Err-clause-answers : goal.returns-in-Err-clause-answers
 returns-in-Err-clause-answers g c =
-    let acts = c.loop.invariant.acts in
-    record { count = acts.0; last = g.W.World.meaning c.loop.world; acts = acts.1; stops = c.in-Err.ensures.answers }
+    P.answers (g.W.World.meaning c.args.world.now) (g.W.World.meaning c.loop.world) (g.W.World.meaning c.turn-turned.new.world) c.args.number.now c.loop.entries c.loop.number c.saturating_add.result _ c.loop.invariant.acts
+    c.saturating_add.ensures c.in-Err.ensures.answers
 
 pub loop-preserved : goal.loop-preserved
 loop-preserved g c =
@@ -36,7 +36,8 @@ loop-preserved g c =
       good = c.turn-turned.ensures.good;
       empty = c.turn-turned.ensures.empty;
       same = world_then m m1 m2 c.loop.invariant.same c.turn-turned.ensures.world;
-      acts = P.one_acted m m1 m2 c.in-Ok.end c.in-Acted.number c.loop.made c.in-Acted.is c.in-Ok.ensures.answers c.loop.invariant.acts;
+      acts = P.one_acted m m1 m2 c.in-Ok.end c.in-Acted.number c.args.number.now c.loop.entries c.saturating_add-entries.result c.loop.number c.saturating_add.result c.in-Acted.is c.in-Ok.ensures.answers
+          c.saturating_add-entries.ensures c.saturating_add.ensures c.loop.invariant.acts;
     }
 
 pub returns-in-Ticked-clause-good : goal.returns-in-Ticked-clause-good
@@ -53,7 +54,9 @@ returns-in-Ticked-clause-answers g c =
     let m1 = g.W.World.meaning c.loop.world in
     let m2 = g.W.World.meaning c.turn-turned.new.world in
     let acts = c.loop.invariant.acts in
-    record { count = acts.0; last = m1; acts = acts.1; stops = P.ticked m1 m2 acts.0 c.in-Ticked.number c.in-Ok.end c.in-Ticked.is c.in-Ok.ensures.answers }
+    P.answers (g.W.World.meaning c.args.world.now) m1 m2 c.args.number.now c.loop.entries c.loop.number c.saturating_add.result _ acts c.saturating_add.ensures
+    (P.ticked (g.W.World.meaning c.args.world.now) m1 m2 c.args.number.now c.in-Ticked.number c.loop.entries c.saturating_add-entries-in-Ticked.result c.loop.number c.in-Ok.end acts c.in-Ticked.is c.in-Ok.ensures.answers
+    c.saturating_add-entries-in-Ticked.ensures)
 
 pub returns-in-Behind-clause-good : goal.returns-in-Behind-clause-good
 returns-in-Behind-clause-good g c = c.turn-turned.ensures.good
@@ -69,7 +72,8 @@ returns-in-Behind-clause-answers g c =
     let m1 = g.W.World.meaning c.loop.world in
     let m2 = g.W.World.meaning c.turn-turned.new.world in
     let acts = c.loop.invariant.acts in
-    record { count = acts.0; last = m1; acts = acts.1; stops = P.was_behind m1 m2 acts.0 c.in-Behind.count c.in-Behind.cpu c.loop.made c.in-Ok.end c.in-Behind.is acts.2 c.in-Ok.ensures.answers }
+    P.answers (g.W.World.meaning c.args.world.now) m1 m2 c.args.number.now c.loop.entries c.loop.number c.saturating_add.result _ acts c.saturating_add.ensures
+    (P.was_behind m1 m2 acts.count c.in-Behind.count c.loop.entries c.in-Behind.cpu c.in-Ok.end c.in-Behind.is acts.told c.in-Ok.ensures.answers)
 
 pub returns-in-Finished-clause-good : goal.returns-in-Finished-clause-good
 returns-in-Finished-clause-good g c = c.turn-turned.ensures.good
@@ -85,7 +89,8 @@ returns-in-Finished-clause-answers g c =
     let m1 = g.W.World.meaning c.loop.world in
     let m2 = g.W.World.meaning c.turn-turned.new.world in
     let acts = c.loop.invariant.acts in
-    record { count = acts.0; last = m1; acts = acts.1; stops = P.was_over m1 m2 acts.0 c.loop.made c.in-Ok.end c.in-Finished.is acts.2 c.in-Ok.ensures.answers }
+    P.answers (g.W.World.meaning c.args.world.now) m1 m2 c.args.number.now c.loop.entries c.loop.number c.saturating_add.result _ acts c.saturating_add.ensures
+    (P.was_over m1 m2 acts.count c.loop.entries c.in-Ok.end c.in-Finished.is acts.told c.in-Ok.ensures.answers)
 
 pub returns-in-Err-clause-good : goal.returns-in-Err-clause-good
 returns-in-Err-clause-good g c = c.turn-turned.ensures.good

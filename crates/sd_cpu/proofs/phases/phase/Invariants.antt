@@ -1,7 +1,5 @@
-use Rattle.std.proofs.Common.{◌≡◌, ℕ}
-use Rattle.std.specs.Prelude.{nat_lt}
 use Rattle.sd_cpu.specs.Attempts.{IsEmpty, IsSameWorld}
-use Rattle.sd_cpu.specs.Phases.{ActsOften}
+use Rattle.sd_cpu.proofs.PhaseLemmas.{HasActed}
 use Rattle.sd_cpu.proofs.phases.phase.Given as goal
 
 abbrev pub invariant-loop : goal.invariant-loop
@@ -11,5 +9,5 @@ invariant-loop g l = record {
   good : g.W.World.good l.world;
   empty : IsEmpty (g.W.World.meaning l.world);
   same : IsSameWorld (g.W.World.meaning l.fn.world) (g.W.World.meaning l.world);
-  acts : (k : ℕ) × ActsOften k (g.W.World.meaning l.fn.world) (g.W.World.meaning l.world) × (l.made ≡ nat_lt 0 k);
+  acts : HasActed (g.W.World.meaning l.fn.world) (g.W.World.meaning l.world) l.fn.number l.entries l.number;
 }
