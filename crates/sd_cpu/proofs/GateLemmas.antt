@@ -34,3 +34,7 @@ passed_more m m' p before passed now f was is =
 -- nothing was taken
 pub passed_still : (x y : Acting) (before passed : Bool) → y ≡ x → passed ≡ (before || holds_first x) → passed ≡ (before || holds_first y)
 passed_still x y before passed same was = was ∙ ap (λ a. before || holds_first a) (sym same)
+
+-- once it was passed, it stays so
+pub passed_once : (before passed here : Bool) → passed ≡ (before || here) → before ≡ true → passed ≡ true
+passed_once before passed here is was = is ∙ ap (λ b. b || here) was

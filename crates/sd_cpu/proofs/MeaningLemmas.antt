@@ -24,7 +24,7 @@ use Rattle.sd_world.proofs.WorldLemmas.{begins_then, quiet_same, quiet_then, sta
 use Rattle.sd_cpu.specs.declared.attempts.Attempted.{Attempted}
 use Rattle.sd_cpu.specs.declared.attempts.Turned.{Turned}
 use Rattle.sd_cpu.specs.declared.attempts.Turned.TheVariants.{Acted, Ticked, Behind, Finished}
-use Rattle.sd_cpu.specs.Attempts.{Acts, Attempts, Enters, Idles, IsHindered, IsSameWorld, MakesOne, MayNotTick, Refuses, AttemptTakesTurn, attempted_of, turn_of}
+use Rattle.sd_cpu.specs.Attempts.{Acts, Attempts, Enters, Idles, IsHindered, IsSameWorld, MakesOne, MayNotTick, Refuses, StaysPassed, AttemptTakesTurn, attempted_of, turn_of}
 use Rattle.sd_types.specs.declared.events.Stop.{Stop}
 use Rattle.sd_types.specs.declared.events.Stop.TheVariants.{Full, Memory}
 use Rattle.sd_cpu.specs.Seeking.{GivesUp, Looks}
@@ -219,6 +219,14 @@ answers_then m m' m'' d passed a e x s q = subst (Attempts m m'') (sym e) (by d 
     by : (d : Option Turned) → Acts m m' (Ok d) → Attempts m m'' (attempted_of d passed)
     by (Some t) x = turns_then m m' m'' t x s q
     by None x = hindered_then m m' m'' x s q
+
+-- the gate stays passed
+pub stays_passed : (before now : Bool) (d : Option Turned) (a : Attempted) → a ≡ attempted_of d now → (before ≡ true → now ≡ true) → StaysPassed before (Ok a)
+stays_passed before now d a e stays = subst (λ (x : Attempted). StaysPassed before (Ok x)) (sym e) (by d)
+  where
+    by : (d : Option Turned) → StaysPassed before (Ok (attempted_of d now))
+    by (Some t) = tt
+    by None = stays
 
 -- calls that leave what is held
 pub looks_still : (m m' : Meaning) → Stays m m' → IsQuiet m m' → m'.acting ≡ m.acting → Looks m m'

@@ -99,6 +99,12 @@ abbrev pub attempted_of : Option Turned → Bool → Attempted
 attempted_of (Some t) passed = attempted.Made t
 attempted_of None passed = attempted.Again passed
 
+-- where the gate was passed before it is not to be passed again
+abbrev pub StaysPassed : Bool → Result Attempted Stop → Type 0
+StaysPassed before (Ok (attempted.Made t)) = ⊤
+StaysPassed before (Ok (attempted.Again now)) = before ≡ true → now ≡ true
+StaysPassed before (Err s) = ⊤
+
 abbrev pub Answers : Meaning → Meaning → Result Attempted Stop → Type 0
 Answers m m' (Ok r) = Attempts m m' r
 Answers m m' (Err s) = Refuses m m' s

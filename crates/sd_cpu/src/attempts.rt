@@ -4,7 +4,7 @@ ghost use Rattle.std.specs.Prelude.{◌≡◌, true, IfSome};
 ghost use Rattle.sd_types.specs.Events.{ticks};
 ghost use Rattle.sd_world.specs.Plain.{AreCpus};
 ghost use Rattle.sd_world.specs.Worlds.{Holds, Makes, ReadsCounts};
-ghost use Rattle.sd_cpu.specs.Attempts.{Acts, Answers, AreRead, Enters, Hinders, IsEmpty, attempted_of, turn_of};
+ghost use Rattle.sd_cpu.specs.Attempts.{Acts, Answers, AreRead, Enters, Hinders, IsEmpty, StaysPassed, attempted_of, turn_of};
 ghost use Rattle.sd_cpu.specs.Seeking.{Comes, HoldsAll, HoldsToMake, HoldsToRead, IsOnItsWay, Looks};
 
 use crate::gate::Gate;
@@ -23,7 +23,8 @@ pub enum Turned {
     Finished,
 }
 
-/// The turn was made; or another processor was in the way, and the attempt is to be repeated: the gate has been passed by then, or not.
+/// The turn was made; or another processor was in the way, and the attempt is to be repeated: the gate has been passed by then, or not. Once
+/// it has been passed, it stays so.
 #[derive(Clone, Copy)]
 pub enum Attempted {
     Made(Turned),
@@ -189,6 +190,7 @@ fn act<W: World, G: Gate>(
     requires holds { HoldsToRead (W.meaning world.old) }
     ensures good { W.good world.new }
     ensures acts { Acts (W.meaning world.old) (W.meaning world.new) result }
+    ensures passed { passed.old ≡ true → passed.new ≡ true }
 {
     let Some(course) = find_course(world, gate, work, turn, passed) else {
         return Ok(None);
@@ -224,6 +226,7 @@ pub fn attempt<W: World, G: Gate>(
     ensures good { W.good world.new }
     ensures empty { IsEmpty (W.meaning world.new) }
     ensures answers { Answers (W.meaning world.old) (W.meaning world.new) result }
+    ensures passed { StaysPassed passed result }
 {
     let mut passed = passed;
     let acted = act(world, gate, work, turn, &mut passed);

@@ -1,3 +1,4 @@
+use Rattle.sd_cpu.proofs.GateLemmas.{passed_once}
 use Rattle.sd_cpu.proofs.AttemptLemmas as M
 use Rattle.sd_cpu.proofs.MeaningLemmas.{hindered, looks_then}
 use Rattle.sd_cpu.proofs.ReadLemmas.{course_there}
@@ -77,3 +78,12 @@ returns-in-None-clause-acts g c =
     let m1 = g.W.World.meaning c.find_course.new.world in
     let m2 = g.W.World.meaning c.read_hints-hints.new.world in
     hindered m0 m2 (g.W.World.meaning c.find_event.new.world) (looks_then m0 m1 m2 c.in-Some.ensures.finds.looks c.read_hints-hints.ensures.looks) c.in-None.ensures.finds
+
+pub returns-in_default-clause-passed : goal.returns-in_default-clause-passed
+returns-in_default-clause-passed g c = passed_once _ _ _ c.in_default.ensures.passes
+
+pub returns-in-Some-find_event-clause-passed : goal.returns-in-Some-find_event-clause-passed
+returns-in-Some-find_event-clause-passed g c = passed_once _ _ _ c.in-Some.ensures.passes
+
+pub returns-in-None-clause-passed : goal.returns-in-None-clause-passed
+returns-in-None-clause-passed g c = passed_once _ _ _ c.in-Some.ensures.passes

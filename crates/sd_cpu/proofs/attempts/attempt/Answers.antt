@@ -21,3 +21,6 @@ pub returns-in-Err-clause-answers : goal.returns-in-Err-clause-answers
 returns-in-Err-clause-answers g c =
     let gives = c.give_all.ensures.gives in
     M.refuses_then (g.W.World.meaning c.args.world.now) (g.W.World.meaning c.act-acted.new.world) (g.W.World.meaning c.give_all.new.self) c.in-Err.stop c.in-Err.ensures.acts gives.stays
+
+pub returns-in-Ok-clause-passed : goal.returns-in-Ok-clause-passed
+returns-in-Ok-clause-passed g c = M.stays_passed c.args.passed c.act-acted.new.passed c.in-Ok.done c.attempted_of.result c.attempted_of.ensures c.act-acted.ensures.passed
