@@ -1,0 +1,11 @@
+pub mod Above
+pub mod Blocks
+pub mod Forms
+pub mod Kept
+pub mod Readings
+pub mod Releases
+pub mod Steps
+pub mod Timed
+pub mod Written
+pub mod WrittenKept
+pub mod FormsKept
