@@ -1,0 +1,9 @@
+use Rattle.std.proofs.Common.{◌≡◌, ◌++◌}
+use Rattle.std.specs.List.{flat_map, range_with_len}
+use Rattle.sd_tasks.specs.WrittenKept.{lines_kept}
+use Rattle.sd_tasks.specs.Kept.{above_kept}
+use Rattle.sd_releases.specs.Tails.{scripts_of_clock}
+use Rattle.sd_releases.proofs.tails.put_clock_scripts.Given as goal
+
+abbrev pub invariant-loop-cpu : goal.invariant-loop-cpu
+invariant-loop-cpu l = lines_kept l.lines.items ≡ lines_kept l.initial.lines.items ++ flat_map (scripts_of_clock (above_kept l.facts) l.number) (range_with_len 0 l.cpu)
