@@ -1,0 +1,38 @@
+//! The top call of `disptask`, which expands a task set to a workload.
+#![tactic(auto)]
+
+mod expanding;
+mod forms;
+mod printing;
+mod top;
+
+pub use forms::Request;
+use sd_answers::behind_name;
+use sd_text::{StdSink, StdSource};
+use std::io::Stdout;
+use std::process::ExitCode;
+use std::{env, io};
+pub use top::{expand_set, start};
+
+/// The arguments behind the program's name.
+fn arguments(host: &HostRuntime) -> io::Result<Vec<String>> {
+    Ok(behind_name(host.alloc(), env::args(host)?)?)
+}
+
+/// The host's output, which gets many lines at once; without memory for that it gets each line by itself.
+fn output(host: &HostRuntime) -> StdSink<Stdout> {
+    match StdSink::buffered(host.alloc(), host.stdout()) {
+        Ok(sink) => sink,
+        Err(_) => StdSink::unbuffered(host.alloc(), host.stdout()),
+    }
+}
+
+/// The program on the host: gives the host's input, output and error output, and its arguments, to `start`, and returns its
+/// status. It is trusted: no clause says what the host does.
+pub fn program(host: &HostRuntime) -> ExitCode {
+    let mut input = StdSource::new(host.stdin());
+    let mut out = output(host);
+    let mut err = StdSink::unbuffered(host.alloc(), host.stderr());
+    let arguments = arguments(host);
+    ExitCode::from(start(host.alloc(), arguments, &mut input, &mut out, &mut err))
+}
