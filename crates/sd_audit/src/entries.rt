@@ -10,8 +10,7 @@ use crate::audits::AuditFault;
 use crate::collecting::Collector;
 use crate::lines::{is_accounts, take_line};
 use sd_accounts::Accounts;
-use sd_entries::EntryLine;
-use sd_entry_reader::Names;
+use sd_entry_reader::{Lines, Names};
 use sd_text::next_line;
 use sd_world::PlainWorld;
 use std::alloc::Global;
@@ -44,14 +43,14 @@ pub fn take_entries<C: Collector>(
     ensures bound { IfOk result (λ at. at.number ≤ at.from) }
     ensures fault { IfErr result (IsFault names.now.work.now text.now) }
 {
-    let mut buffer = EntryLine::new();
+    let mut lines = Lines::new(alloc);
     let mut at = EntriesRead { number: 0, from: 0 };
     'lines: while let Some((start, end)) = next_line(text, at.from) {
         let line = &text[start..end];
         if is_accounts(line) {
             return Ok(at);
         }
-        let entry = take_line(alloc, names, world, &mut buffer, line, at.number, collector)?;
+        let entry = take_line(alloc, names, world, &mut lines, line, at.number, collector)?;
         accounts.add(&entry);
         at = EntriesRead {
             number: at.number + 1,

@@ -9,8 +9,7 @@ ghost use Rattle.sd_audit.specs.Collecting.{IsAfter, Takes};
 use crate::audits::AuditFault;
 use crate::collecting::Collector;
 use crate::ranges::in_range;
-use sd_entries::EntryLine;
-use sd_entry_reader::{Names, read_entry};
+use sd_entry_reader::{Lines, Names};
 use sd_types::Entry;
 use sd_world::PlainWorld;
 use std::alloc::Global;
@@ -23,13 +22,13 @@ pub(crate) fn is_accounts(line: &[u8]) -> bool
 }
 
 /// Makes the entry that the line tells, behind `number` entries, where it is a step there, and the collector takes it in; else the
-/// fault is that of the line. The buffer is for the lines of entries.
-pub(crate) fn take_line<C: Collector>(
+/// fault is that of the line.
+pub(crate) fn take_line<'a, C: Collector>(
     alloc: Global,
     names: &Names<'_>,
     world: &mut PlainWorld<'_>,
-    buffer: &mut EntryLine,
-    line: &[u8],
+    lines: &mut Lines<'a>,
+    line: &'a [u8],
     number: u64,
     collector: &mut C,
 ) -> Result<Entry, AuditFault>
@@ -46,7 +45,7 @@ pub(crate) fn take_line<C: Collector>(
     ensures takes { IfOk result (λ e. (first : C) → Takes names.now.work.now (told names.now.work.now world.old) e (λ es. C.became names.now.work.now es first collector.old) (λ es. C.became names.now.work.now es first collector.new)) }
     ensures fault { IfErr result (IsLineFault names.now.work.now (told names.now.work.now world.old) number line.now) }
 {
-    let Some(entry) = read_entry(names, buffer, line) else {
+    let Some(entry) = lines.read(names, line, number) else {
         return Err(AuditFault::NotAnEntry {
             line: number as u32 + 1,
         });

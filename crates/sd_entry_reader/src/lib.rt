@@ -5,10 +5,12 @@ mod cutting;
 mod events;
 mod fitting;
 mod indexing;
+mod lines;
 mod lookups;
 mod places;
 mod read;
 mod words;
 
 pub use indexing::Names;
+pub use lines::Lines;
 pub use read::read_entry;

@@ -147,8 +147,8 @@ fn entry_of(names: &Names<'_>, words: &Words<'_>) -> Entry
     }
 }
 
-// Whether the line is that of the entry, without its newline. That of the entry is made in the buffer.
-fn is_line_of(work: &Work, entry: &Entry, text: &mut EntryLine, line: &[u8]) -> bool
+/// Whether the line is that of the entry, without its newline. That of the entry is made in the buffer.
+pub(crate) fn is_line_of(work: &Work, entry: &Entry, text: &mut EntryLine, line: &[u8]) -> bool
     ensures { IsTrue result ↔ (entry_text work.now entry.now ≡ line.now ++ 10 ∷ []) }
 {
     is_with_newline(text.format(work, entry), line)
