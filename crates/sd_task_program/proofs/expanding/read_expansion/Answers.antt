@@ -20,8 +20,8 @@ returns-in_err-bytes g c =
     expanded_exit input c.from_residual.result (read_answer why) c.from_residual.ensures.1
     (unread_set input why (unread_of input (Err why) c.in_err-bytes.ensures.taken c.in_err-bytes.ensures.read_fault c.in_err-bytes.ensures.no_fault c.in_err-bytes.ensures.memory))
 
-pub returns-in-Err : goal.returns-in-Err
-returns-in-Err g c =
+pub returns : goal.returns
+returns g c =
     let left = g.S.Source.remaining in
     let faults = g.S.Source.fault_count in
     let old = c.args.input.now in
