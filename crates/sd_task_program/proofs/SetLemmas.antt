@@ -1,5 +1,5 @@
 -- Answers to sets that were read, refused and printed.
-use Rattle.std.proofs.Common.{◌≡◌, ℕ, Bool, true, false, List, [], ◌∷◌, ◌++◌, Result, Ok, Err, refl, sym, ap, subst, ◌∙◌, inl}
+use Rattle.std.proofs.Common.{◌≡◌, ℕ, Bool, true, false, List, [], ◌∷◌, ◌++◌, Result, Err, refl, sym, ap, subst, ◌∙◌, inl}
 use Rattle.std.specs.Prelude.{codes, decimal}
 use Rattle.std.specs.Result.{IsErrAnd}
 use Rattle.std.proofs.lemmas.Result.{err_from_is_err_and}
@@ -8,7 +8,7 @@ use Rattle.sd_text.specs.Lines.{EndsLine}
 use Rattle.sd_text.specs.declared.read.ReadAllFault.{ReadAllFault}
 use Rattle.sd_text.specs.declared.read.ReadAllFault.TheVariants as read
 use Rattle.sd_text.proofs.PieceLemmas.{EndsLine-flat_map, EndsLine-newline}
-use Rattle.sd_tasks.specs.Written.{Written, text_of}
+use Rattle.sd_tasks.specs.Written.{Written}
 use Rattle.sd_releases.specs.declared.expanding.Expansion.{Expansion}
 use Rattle.sd_releases.specs.declared.expanding.SetFault.{SetFault}
 use Rattle.sd_releases.specs.declared.expanding.SetFault.TheVariants as fault

@@ -1,4 +1,4 @@
-use Rattle.std.proofs.Common.{ℕ, List, Bool, Err, refl, ap, sym, subst}
+use Rattle.std.proofs.Common.{List, Err, refl, ap, subst}
 use Rattle.std.specs.Io.KnownBytes.{Appends}
 use Rattle.sd_tasks.specs.Written.{Written}
 use Rattle.sd_tasks.specs.WrittenKept.{lines_kept}

@@ -1,4 +1,4 @@
-use Rattle.std.proofs.Common.{List, ℕ, sym, subst, ◌∙◌}
+use Rattle.std.proofs.Common.{sym, subst, ◌∙◌}
 use Rattle.sd_text.specs.Lines.{EndsLine}
 use Rattle.sd_tasks.specs.WrittenKept.{lines_kept}
 use Rattle.sd_task_program.proofs.SetLemmas.{printed-ends}

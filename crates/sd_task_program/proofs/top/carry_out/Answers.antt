@@ -1,7 +1,5 @@
-use Rattle.std.proofs.Common.{Some, None, Option, map, refl, sym, ap, subst, ◌∙◌, inl}
-use Rattle.std.specs.Prelude.{string_bytes}
+use Rattle.std.proofs.Common.{Some, refl, sym, ap, subst, ◌∙◌}
 use Rattle.sd_answers.specs.StreamChanges.{change_of}
-use Rattle.sd_answers.specs.Handing.{LeavesHeldBy}
 use Rattle.sd_answers.specs.declared.answers.Answer.{Answer}
 use Rattle.sd_answers.specs.declared.answers.Answer.TheVariants.{Usage}
 use Rattle.sd_task_program.specs.declared.forms.Request.{Request}
