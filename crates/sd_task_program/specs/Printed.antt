@@ -16,7 +16,8 @@ printed false lines = text_of lines
 abbrev pub help_text : List ℕ
 help_text =
     codes "disptask reads a task set, and prints the workload to which it expands:\n"
-    ++ (codes "disptask [--map] < SET | dispsim run\n"
+    ++ (codes "disptask [--map] [FILE] | dispsim run\n"
+    ++ (codes "FILE    the set; without it the standard input is read\n"
     ++ (codes "--map   each line with the line of the set from which it comes, as a comment\n"
     ++ (codes "--help  these lines\n"
-    ++ codes "Exit status: 0 printed; 1 usage; 2 refused; 3 read fault; 4 write fault; 5 out of memory\n")))
+    ++ codes "Exit status: 0 printed; 1 usage; 2 refused; 3 read fault; 4 write fault; 5 out of memory\n"))))

@@ -82,7 +82,7 @@ CausedByRequest (Some Help) input out a = IsUntouched input × CausedByHelp out 
 CausedByRequest (Some (Expand is_mapped)) input out a = CausedBySet is_mapped input out a
 
 abbrev pub usage_line : List ℕ
-usage_line = codes "usage: disptask [--map] | --help\n"
+usage_line = codes "usage: disptask [--map] [FILE] | --help\n"
 
 -- the answer has its cause, its status and its line
 pub record ExpandsAsPromised (arguments : List (List ℕ)) (input out err : StreamChange) (status : ℕ) : Type 0 where

@@ -15,10 +15,11 @@ use sd_text::{Sink, Source};
 use std::alloc::Global;
 use std::io;
 
-const USAGE: &[u8] = b"usage: disptask [--map] | --help\n";
+const USAGE: &[u8] = b"usage: disptask [--map] [FILE] | --help\n";
 
 const HELP: &[u8] = b"disptask reads a task set, and prints the workload to which it expands:
-disptask [--map] < SET | dispsim run
+disptask [--map] [FILE] | dispsim run
+FILE    the set; without it the standard input is read
 --map   each line with the line of the set from which it comes, as a comment
 --help  these lines
 Exit status: 0 printed; 1 usage; 2 refused; 3 read fault; 4 write fault; 5 out of memory
@@ -66,10 +67,11 @@ fn tell<E: Sink>(answer: Answer, err: &mut E) -> u8
     answer.status()
 }
 
-/// Expands the task set that the input spells, and returns the exit status: 0 (`out` received the workload to which it
-/// expands, or the forms), 1 (the arguments are of none of the forms), 2 (the input is too large or no accepted set), 3 (a read
-/// failed), 4 (a write failed) or 5 (out of memory); each of these five leaves a line on `err`. With status 0 `out` has handed
-/// on all that it holds. Nothing is written to `out` before the set was accepted.
+/// Expands the task set that the input spells: the file that the arguments name, or the standard input. Returns the exit
+/// status: 0 (`out` received the workload to which it expands, or the forms), 1 (the arguments are of none of the forms), 2
+/// (the input is too large or no accepted set), 3 (a read failed), 4 (a write failed) or 5 (out of memory); each of these five
+/// leaves a line on `err`. With status 0 `out` has handed on all that it holds. Nothing is written to `out` before the set was
+/// accepted.
 pub fn expand_set<S: Source, K: Sink, E: Sink>(
     alloc: Global,
     arguments: &[String],
