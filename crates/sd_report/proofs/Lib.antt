@@ -1,3 +1,4 @@
+pub mod CellLemmas
 pub mod ClosingLemmas
 pub mod FieldLemmas
 pub mod PlainLemmas

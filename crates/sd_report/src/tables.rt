@@ -2,23 +2,35 @@
 
 ghost use Rattle.std.specs.Prelude.{◌≡◌, ◌++◌, IfOk, OnOk, codes, decimal};
 ghost use Rattle.std.specs.List.{flat_map};
+ghost use Rattle.sd_report.specs.Cells.{left};
 ghost use Rattle.sd_report.specs.Tables.{by_text, cpu_section, head_line, lock_section, longest_cells, longest_first, longest_last, longest_ticks, report_text, row_cells, row_words, section, table_line, task_section, thread_section, ticks_line};
+ghost use Rattle.sd_report.specs.Words.{subject_name};
 
-use crate::cells::{put_cell, put_left, put_right};
-use crate::words::{holder, measure_word, put_subject_name, row_object};
-use sd_statistics::{Row, Span, cpu_rows, lock_rows, task_rows, thread_rows, ticks_of};
-use sd_stretches::{ByThread, put_counted};
+use crate::cells::{put_cell, put_left, put_left_number, put_right};
+use crate::words::{holder, measure_word, row_object};
+use sd_statistics::{Row, Span, Subject, cpu_rows, lock_rows, task_rows, thread_rows, ticks_of};
+use sd_stretches::{ByThread, lock_name, put_counted, thread_name};
 use sd_types::Work;
 use std::alloc::{AllocError, Global};
 
+// The name of whom a row speaks, and of a processor its number.
+fn put_subject(work: &Work, subject: Subject, out: &mut Vec<u8>) -> Result<(), AllocError>
+    ensures { OnOk result (out.new.items ≡ out.old.items ++ left 17 (subject_name work.now subject)) }
+{
+    match subject {
+        Subject::Thread(t) => put_left(17, thread_name(work, t), out),
+        Subject::Cpu(c) => put_left_number(17, u64::from(c), out),
+        Subject::Lock(l) => put_left(17, lock_name(work, l), out),
+        Subject::Task(t, _) => put_left(17, thread_name(work, t), out),
+    }
+}
+
 // Of whom a row speaks, what it measures, and the lock.
 #[tactic(auto, unfolding(crate::specs::Tables::row_words))]
-fn put_words(alloc: Global, work: &Work, x: &Row, out: &mut Vec<u8>) -> Result<(), AllocError>
+fn put_words(work: &Work, x: &Row, out: &mut Vec<u8>) -> Result<(), AllocError>
     ensures { OnOk result (out.new.items ≡ out.old.items ++ row_words work.now x.now) }
 {
-    let mut name = Vec::new(alloc);
-    put_subject_name(work, x.subject, &mut name)?;
-    put_left(17, &name, out)?;
+    put_subject(work, x.subject, out)?;
     put_left(15, measure_word(x.measure), out)?;
     put_left(17, row_object(work, x), out)
 }
@@ -52,22 +64,22 @@ pub(crate) fn longest_last(longest: Option<Span>) -> Option<u64>
 
 // How long the longest is, the first entry that was made in it, and the one that ended it.
 #[tactic(auto, unfolding(crate::specs::Tables::longest_cells))]
-fn put_longest(alloc: Global, longest: Option<Span>, out: &mut Vec<u8>) -> Result<(), AllocError>
+fn put_longest(longest: Option<Span>, out: &mut Vec<u8>) -> Result<(), AllocError>
     ensures { OnOk result (out.new.items ≡ out.old.items ++ longest_cells longest) }
 {
-    put_cell(alloc, 9, longest_ticks(longest), out)?;
-    put_cell(alloc, 12, longest_first(longest), out)?;
-    put_cell(alloc, 10, longest_last(longest), out)
+    put_cell(9, longest_ticks(longest), out)?;
+    put_cell(12, longest_first(longest), out)?;
+    put_cell(10, longest_last(longest), out)
 }
 
 #[tactic(auto, unfolding(crate::specs::Tables::row_cells))]
-fn put_cells(alloc: Global, x: &Row, out: &mut Vec<u8>) -> Result<(), AllocError>
+fn put_cells(x: &Row, out: &mut Vec<u8>) -> Result<(), AllocError>
     ensures { OnOk result (out.new.items ≡ out.old.items ++ row_cells x.now) }
 {
-    put_cell(alloc, 8, x.figures.number, out)?;
-    put_cell(alloc, 9, x.figures.ticks, out)?;
-    put_cell(alloc, 10, x.figures.priority, out)?;
-    put_longest(alloc, x.figures.longest, out)
+    put_cell(8, x.figures.number, out)?;
+    put_cell(9, x.figures.ticks, out)?;
+    put_cell(10, x.figures.priority, out)?;
+    put_longest(x.figures.longest, out)
 }
 
 // Whose the longest is, where that is said.
@@ -82,11 +94,11 @@ fn put_by(name: &[u8], out: &mut Vec<u8>) -> Result<(), AllocError>
 }
 
 #[tactic(auto, unfolding(crate::specs::Tables::table_line))]
-fn put_line(alloc: Global, work: &Work, x: &Row, out: &mut Vec<u8>) -> Result<(), AllocError>
+fn put_line(work: &Work, x: &Row, out: &mut Vec<u8>) -> Result<(), AllocError>
     ensures { OnOk result (out.new.items ≡ out.old.items ++ table_line work.now x.now) }
 {
-    put_words(alloc, work, x, out)?;
-    put_cells(alloc, x, out)?;
+    put_words(work, x, out)?;
+    put_cells(x, out)?;
     put_by(holder(work, x), out)?;
     out.extend_from_slice(b"\n")
 }
@@ -107,31 +119,25 @@ fn put_head(out: &mut Vec<u8>) -> Result<(), AllocError>
     out.extend_from_slice(b"\n")
 }
 
-fn put_lines(alloc: Global, work: &Work, rows: &[Row], out: &mut Vec<u8>) -> Result<(), AllocError>
+fn put_lines(work: &Work, rows: &[Row], out: &mut Vec<u8>) -> Result<(), AllocError>
     ensures { OnOk result (out.new.items ≡ out.old.items ++ flat_map (table_line work.now) rows.now) }
 {
     for x in rows {
-        put_line(alloc, work, x, out)?;
+        put_line(work, x, out)?;
     }
     Ok(())
 }
 
 // The rows of one kind under their title, where there are any.
 #[tactic(auto, unfolding(crate::specs::Tables::section))]
-fn put_section(
-    alloc: Global,
-    work: &Work,
-    title: &[u8],
-    rows: &[Row],
-    out: &mut Vec<u8>,
-) -> Result<(), AllocError>
+fn put_section(work: &Work, title: &[u8], rows: &[Row], out: &mut Vec<u8>) -> Result<(), AllocError>
     ensures { OnOk result (out.new.items ≡ out.old.items ++ section work.now title.now rows.now) }
 {
     if rows.is_empty() {
         return Ok(());
     }
     out.extend_from_slice(title)?;
-    put_lines(alloc, work, rows, out)
+    put_lines(work, rows, out)
 }
 
 #[tactic(auto, unfolding(crate::specs::Tables::ticks_line))]
@@ -153,7 +159,7 @@ fn put_threads(
     ensures { OnOk result (out.new.items ≡ out.old.items ++ thread_section work.now history.now) }
 {
     let rows = thread_rows(alloc, work, history)?;
-    put_section(alloc, work, b"\nthreads\n", &rows, out)
+    put_section(work, b"\nthreads\n", &rows, out)
 }
 
 #[tactic(auto, unfolding(crate::specs::Tables::task_section))]
@@ -166,7 +172,7 @@ fn put_tasks(
     ensures { OnOk result (out.new.items ≡ out.old.items ++ task_section work.now history.now) }
 {
     let rows = task_rows(alloc, work, &history.history)?;
-    put_section(alloc, work, b"\ntasks\n", &rows, out)
+    put_section(work, b"\ntasks\n", &rows, out)
 }
 
 #[tactic(auto, unfolding(crate::specs::Tables::lock_section))]
@@ -179,7 +185,7 @@ fn put_locks(
     ensures { OnOk result (out.new.items ≡ out.old.items ++ lock_section work.now history.now) }
 {
     let rows = lock_rows(alloc, work, history)?;
-    put_section(alloc, work, b"\nlocks\n", &rows, out)
+    put_section(work, b"\nlocks\n", &rows, out)
 }
 
 #[tactic(auto, unfolding(crate::specs::Tables::cpu_section))]
@@ -192,7 +198,7 @@ fn put_cpus(
     ensures { OnOk result (out.new.items ≡ out.old.items ++ cpu_section work.now history.now) }
 {
     let rows = cpu_rows(alloc, work, &history.history)?;
-    put_section(alloc, work, b"\nprocessors\n", &rows, out)
+    put_section(work, b"\nprocessors\n", &rows, out)
 }
 
 /// The report of a run of the workload, of which this is the history, as a table: a line for each row of the statistics.
