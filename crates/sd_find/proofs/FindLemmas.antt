@@ -10,6 +10,7 @@ use Rattle.sd_search.specs.declared.graph.Graph.{Graph}
 use Rattle.sd_search.specs.declared.questions.Question.{Question}
 use Rattle.sd_search.specs.Findings.{IsFair, IsFinding, IsShortest}
 use Rattle.sd_search.specs.Graphs.{packed}
+use Rattle.sd_longest.specs.LongestRuns.{IsLongestFound, IsLongestRun}
 use Rattle.sd_answers.specs.declared.answers.Answer.{Answer}
 use Rattle.sd_answers.specs.declared.answers.Answer.TheVariants as answer
 use Rattle.sd_answers.specs.declared.answers.Answer.TheVariants.{Usage, TooLarge, TooLargeToAudit, NoJournal, Refused, ReadFault, WriteFault, OutOfMemory, Blocked, NotAJournal, TooLong}
@@ -126,6 +127,14 @@ not_lacking : (b : Bool) → count_verdict b ≡ NoThread → ⊥
 not_lacking true e = cc
 not_lacking false e = cc
 
+searched_all : (w : Work) (g : Graph) (entries : Option ℕ) → length (packed g) ≤ g.done → IsLongestFound w g entries → IsLongestRun w (length (packed g)) entries
+searched_all w g entries all (inl (less, none)) = absurd (omega (arith, all, less))
+searched_all w g entries all (inr (is, longest)) = longest
+
+searched_part : (w : Work) (g : Graph) (entries : Option ℕ) → g.done < length (packed g) → IsLongestFound w g entries → entries ≡ None
+searched_part w g entries left (inl (less, none)) = none
+searched_part w g entries left (inr (all, longest)) = absurd (omega (arith, all, left))
+
 module _ (most : ℕ) (input out : StreamChange) where
   all_of : (c : Says Count most input out Done) → nat_le (length (packed c.of.is.graph)) c.of.is.graph.done ≡ true
   all_of c = all_done (nat_le (length (packed c.of.is.graph)) c.of.is.graph.done) (sym c.of.is.verdict ∙ c.verdict_is)
@@ -135,16 +144,17 @@ module _ (most : ℕ) (input out : StreamChange) where
       let a = c.of.is in
       let n = length (packed a.graph) in
       let all = all_of c in
+      let within : n ≤ a.graph.done = grind (arith, nat_tests) in
       record {
         work = c.of.work;
         workload = c.of.workload;
         graph = a.graph;
         search = a.search;
-        every = a.search.all (let within : n ≤ a.graph.done = grind (arith, nat_tests) in within);
+        every = a.search.all within;
         finals = a.finals;
         are = a.are;
         entries = a.entries;
-        longest = a.longest;
+        longest = searched_all c.of.work a.graph a.entries within a.longest;
         written = subst (λ b. Appends out.before out.after (count_text b n (length a.finals) a.entries)) all (subst (Appends out.before out.after) a.written c.whole);
         no_fault = c.no_fault;
       }
@@ -154,17 +164,18 @@ module _ (most : ℕ) (input out : StreamChange) where
       let a = c.of.is in
       let n = length (packed a.graph) in
       let some : nat_le n a.graph.done ≡ false = not_all (nat_le n a.graph.done) (sym a.verdict ∙ c.verdict_is) in
+      let left : a.graph.done < n = grind (arith, nat_tests) in
+      let none : a.entries ≡ None = searched_part c.of.work a.graph a.entries left a.longest in
       record {
         work = c.of.work;
         workload = c.of.workload;
         graph = a.graph;
         search = a.search;
-        cut_off = cut_off c.of.work most a.graph a.search (let less : a.graph.done < n = grind (arith, nat_tests) in less);
+        cut_off = cut_off c.of.work most a.graph a.search left;
         finals = a.finals;
         are = a.are;
-        entries = a.entries;
-        longest = a.longest;
-        written = subst (λ b. Appends out.before out.after (count_text b n (length a.finals) a.entries)) some (subst (Appends out.before out.after) a.written c.whole);
+        written = subst (λ (o : Option ℕ). Appends out.before out.after (count_text false n (length a.finals) o)) none
+            (subst (λ b. Appends out.before out.after (count_text b n (length a.finals) a.entries)) some (subst (Appends out.before out.after) a.written c.whole));
         no_fault = c.no_fault;
       }
 

@@ -58,7 +58,7 @@ pub record ExcludesRuns (q : Question) (most : ℕ) (input out : StreamChange) :
   pub written : Appends out.before out.after (never_text (length (packed graph)))
   pub no_fault : HasNoFault out
 
--- not all states were searched, and as many were found as were allowed, or more
+-- not all states were searched, and as many were found as were allowed
 pub record IsCutOff (most : ℕ) (g : Graph) : Type 0 where
   pub left : g.done < length (packed g)
   pub many : most ≤ length (packed g)
@@ -76,8 +76,8 @@ pub record LeavesOpen (q : Question) (most : ℕ) (input out : StreamChange) : T
   pub no_fault : HasNoFault out
 
 -- Status 0 where states are counted: each run in which each processor reads the numbers of the state ends in one of these states; so many
--- there are, no two the same up to the order of keys, and in so many of them runs are complete. Where it is told how many entries a run has
--- at most, one has as many, and none has more.
+-- there are, no two the same up to the order of keys, and in so many of them runs are complete. It is told how many entries a run has at
+-- most: one has as many, and none has more. Only where runs have 2^32 - 1 entries or more, or as many as there are states, none is told.
 pub record CountsStates (most : ℕ) (input out : StreamChange) : Type 0 where
   pub work : Work
   pub workload : IsWorkload input work
@@ -87,7 +87,7 @@ pub record CountsStates (most : ℕ) (input out : StreamChange) : Type 0 where
   pub finals : List ℕ
   pub are : AreFinals work (packed graph) (length (packed graph)) finals
   pub entries : Option ℕ
-  pub longest : IsLongestRun work entries
+  pub longest : IsLongestRun work (length (packed graph)) entries
   pub written : Appends out.before out.after (count_text true (length (packed graph)) (length finals) entries)
   pub no_fault : HasNoFault out
 
@@ -101,9 +101,7 @@ pub record HasMany (most : ℕ) (input out : StreamChange) : Type 0 where
   pub cut_off : IsCutOff most graph
   pub finals : List ℕ
   pub are : AreFinals work (packed graph) (length (packed graph)) finals
-  pub entries : Option ℕ
-  pub longest : IsLongestRun work entries
-  pub written : Appends out.before out.after (count_text false (length (packed graph)) (length finals) entries)
+  pub written : Appends out.before out.after (count_text false (length (packed graph)) (length finals) None)
   pub no_fault : HasNoFault out
 
 -- Status 9 where it is asked when a thread ends: in each run in which each processor reads the numbers of the state it ends at one of the

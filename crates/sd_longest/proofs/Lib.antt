@@ -6,6 +6,7 @@ pub mod ListLemmas
 pub mod MarkLemmas
 pub mod NearLemmas
 pub mod OpeningLemmas
+pub mod ReachedLemmas
 pub mod ReportLemmas
 pub mod RowLemmas
 pub mod RunLemmas

@@ -1,5 +1,5 @@
 -- From each state of a run as many entries follow as its height says, at most, and some run has as many.
-use Rattle.std.proofs.Common.{◌≡◌, ℕ, zero, suc, ◌+◌, ◌≤◌, List, [], ◌∷◌, length, get_or, Some, refl, ap, inl, inr, ◌⊎◌, arith}
+use Rattle.std.proofs.Common.{◌≡◌, ℕ, zero, suc, ◌+◌, ◌≤◌, List, [], ◌∷◌, length, get_or, Some, None, refl, ap, subst, inl, inr, ◌⊎◌, arith}
 use Rattle.std.specs.Prelude.{slice_get, slice_index}
 use Rattle.std.proofs.lemmas.Option.{slice_get-get_or}
 use Rattle.sd_types.specs.declared.numbers.ThreadId.{ThreadId}
@@ -20,7 +20,8 @@ use Rattle.sd_longest.proofs.NearLemmas.{IsNear}
 use Rattle.sd_longest.proofs.TraceLemmas.{stepped}
 use Rattle.sd_longest.proofs.WaitWalkLemmas.{entry_of, taken}
 use Rattle.sd_longest.specs.Heights.{AreHeights}
-use Rattle.sd_longest.specs.LongestRuns.{HasMost}
+use Rattle.sd_longest.specs.Edges.{Follow, HasWay}
+use Rattle.sd_longest.specs.LongestRuns.{HasLongRun, HasMost, IsLongestRun}
 
 -- so many entries follow from a state
 record HasEntries (w : Work) (n : ℕ) (s : State) (k : ℕ) : Type 0 where
@@ -69,6 +70,15 @@ module _ (w : Work) (bs : List (List ℕ)) (steps : List Step) (done : ℕ) (g :
           let rest = next (n + 1) (after w s n e.cpu one.event) e.to one.near (omega (arith, is, above)) in
           one_entry w n k s (entry_of w n s e.cpu one.event) refl one.step refl rest
 
+  -- entries follow along edges
+  along : (n : ℕ) (s : State) (i : ℕ) (es : List Edge) → IsNear w bs n s i → Follow rows i es → HasEntries w n s (length es)
+  unfolding Follow
+  along n s i [] near follow = no_entries w n s
+  along n s i (e ∷ es) near (at, rest) =
+      let one = taken w bs steps done g t rows a n s i e near at in
+      let more = along (n + 1) (after w s n e.cpu one.event) e.to es one.near rest in
+      one_entry w n (length es) s (entry_of w n s e.cpu one.event) refl one.step refl more
+
   start : IsNear w bs 0 (opening w) 0
   start = record { state = g.start; at = g.start_at; same = g.opens; reached = opening_reached w }
 
@@ -81,3 +91,16 @@ module _ (w : Work) (bs : List (List ℕ)) (steps : List Step) (done : ℕ) (g :
         many = long.many;
         most = λ es r. bounded 0 (opening w) 0 es start (IsRun-from w es r.run) r.fresh;
       }
+
+  -- as many as edges follow one another from the first state, or more
+  pub many_of : (k : ℕ) → HasWay rows 0 k → HasLongRun w k
+  many_of k way =
+      let long = along 0 (opening w) 0 way.edges start way.follow in
+      let enough = way.many in
+      let same = long.many in
+      record { entries = long.entries; run = record { run = from-IsRun w long.entries long.run; fresh = long.fresh }; many = omega (arith, enough, same) }
+
+  -- where the heights are not told
+  pub untold_of : HasWay rows 0 4294967295 ⊎ HasWay rows 0 (length rows) → IsLongestRun w (length bs) None
+  untold_of (inl great) = inl (many_of 4294967295 great)
+  untold_of (inr round) = inr (many_of (length bs) (subst (HasWay rows 0) a.many round))

@@ -1,7 +1,7 @@
 -- A graph whose edges have ticks and open waits or end them, and the waits along its walks: an edge opens one, edges follow that do
 -- not end it, and an edge ends it. It is as long as the tick of the last is above that of the first.
 -- Source: this project's own.
-use Rattle.std.specs.Prelude.{◌≡◌, ℕ, ◌-◌, ◌<◌, ◌≤◌, List, [], ◌∷◌, ◌++◌, length, map, slice_get, Option, Some, None, Vec}
+use Rattle.std.specs.Prelude.{◌≡◌, ℕ, ◌-◌, ◌<◌, ◌≤◌, List, [], ◌∷◌, ◌++◌, length, map, slice_get, Option, Some, None, Vec, ⊤}
 use Rattle.std.specs.declared.alloc.Global.{Global}
 use Rattle.sd_types.specs.declared.numbers.CpuId.{CpuId}
 use Rattle.sd_longest.specs.declared.edges.Edge.{Edge}
@@ -27,6 +27,17 @@ LeadInside rows = (i : ℕ) (e : Edge) → IsEdge rows i e → e.to < length row
 unfoldable pub Lead : List (List Edge) → ℕ → List Edge → ℕ → Type 0
 Lead rows i [] j = i ≡ j
 Lead rows i (e ∷ es) j = IsEdge rows i e × (e.effect ≡ Ends → ⊥) × Lead rows e.to es j
+
+-- these edges lead one after another from state number i
+unfoldable pub Follow : List (List Edge) → ℕ → List Edge → Type 0
+Follow rows i [] = ⊤
+Follow rows i (e ∷ es) = IsEdge rows i e × Follow rows e.to es
+
+-- so many edges do, or more
+pub record HasWay (rows : List (List Edge)) (i n : ℕ) : Type 0 where
+  pub edges : List Edge
+  pub follow : Follow rows i edges
+  pub many : n ≤ length edges
 
 -- from state number i an edge opens a wait, which passes along others to the one that ends it
 pub record IsWait (rows : List (List Edge)) (i : ℕ) (opening : Edge) (between : List Edge) (ending : Edge) : Type 0 where

@@ -1,7 +1,7 @@
 //! How many entries a run has at most.
 
 ghost use Rattle.std.specs.Prelude.{◌≡◌, ◌<◌, length, slice_index, IfOk};
-ghost use Rattle.sd_longest.specs.LongestRuns.{IsLongestRun};
+ghost use Rattle.sd_longest.specs.LongestRuns.{IsLongestFound};
 ghost use Rattle.sd_search.specs.Graphs.{Gathers};
 
 use crate::heights::heights;
@@ -18,11 +18,11 @@ fn first(heights: &[u32]) -> u32
 }
 
 /// How many entries a run has at most, over all orders in which the processors can act, where each reads the numbers of the
-/// state, by the states that a search has found. None where not all states were reached, or where no such number was found. Each
-/// state is read once; what the turns do to the waits of a thread is noted and not looked at.
+/// state, by the states that a search has found. None where not all states were reached, or where runs have 2^32 - 1 entries or
+/// more, or could go on without end. Each state is read once; what the turns do to the waits of a thread is noted and not looked at.
 pub fn longest_run(alloc: Global, work: &Work, graph: &Graph) -> Result<Option<u32>, AllocError>
     requires { Gathers work.now graph.now }
-    ensures { IfOk result (IsLongestRun work.now) }
+    ensures { IfOk result (IsLongestFound work.now graph.now) }
 {
     if !graph.is_closed() {
         return Ok(None);

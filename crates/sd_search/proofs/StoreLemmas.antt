@@ -1,11 +1,11 @@
 -- What a set of byte strings is after an insertion.
-use Rattle.std.proofs.Common.{◌≡◌, ℕ, zero, suc, ◌<◌, length, get_or, arith, Bool, true, false, not, ◌||◌, cond, List, [], ◌∷◌, ◌++◌, map, Option, Some, None, refl, sym, ap, ◌∙◌, subst}
+use Rattle.std.proofs.Common.{◌≡◌, ℕ, zero, suc, ◌+◌, ◌<◌, ◌≤◌, length, get_or, arith, Bool, true, false, not, ◌||◌, cond, List, [], ◌∷◌, ◌++◌, map, Option, Some, None, refl, sym, ap, ◌∙◌, subst}
 use Rattle.std.specs.Prelude.{Vec, is_some, nat_eq, option_map, position, slice_get}
 use Rattle.std.specs.List.{list_any}
 use Rattle.std.specs.Cmp.Lexicographic.{pointwise, bytes_decides}
 use Rattle.std.specs.declared.alloc.Global.{Global}
 use Rattle.std.proofs.lemmas.Bool.{true≢false}
-use Rattle.std.proofs.lemmas.List.{length-map, map-append}
+use Rattle.std.proofs.lemmas.List.{length-append, length-map, map-append}
 use Rattle.std.proofs.lemmas.List.Quantifiers.{position-Some}
 use Rattle.std.proofs.lemmas.Option.{same_Some, slice_get-get_or, slice_get-map, slice_get_read}
 use Rattle.sd_search.specs.Stored.{IsIndex, IsInserted}
@@ -58,6 +58,11 @@ is_inserted ks ks' v new added keys = by (list_any (same v.items) ks) refl added
     by : (b : Bool) → list_any (same v.items) ks ≡ b → new ≡ not b → ks' ≡ cond b ks (ks ++ v ∷ []) → IsInserted (map items_of ks) (map items_of ks') v.items new
     by true e none is = subst (λ n. IsInserted (map items_of ks) (map items_of ks') v.items n) (sym none) (ap (map items_of) is, there v.items ks e)
     by false e one is = subst (λ n. IsInserted (map items_of ks) (map items_of ks') v.items n) (sym one) (ap (map items_of) is ∙ map-append items_of ks (v ∷ []), nowhere v.items ks e)
+
+-- one string more stands there at most
+pub few_inserted : (bs bs' : List (List ℕ)) (b : List ℕ) (new : Bool) → IsInserted bs bs' b new → length bs' ≤ length bs + 1
+few_inserted bs bs' b true is = let many = ap length is.0 ∙ length-append bs (b ∷ []) in omega (arith, many)
+few_inserted bs bs' b false is = let many = ap length is.0 in omega (arith, many)
 
 pub no_items : (ks : List Bytes) → ks ≡ [] → map items_of ks ≡ []
 no_items ks e = ap (map items_of) e

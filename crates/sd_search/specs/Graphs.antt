@@ -2,7 +2,7 @@
 -- first from which it was reached, by the turn of which processor. States with an index below `done` have been expanded:
 -- each turn of each processor from there leads to a state that was gathered, up to the order of keys.
 -- Source: explicit search of state spaces, breadth first (Clarke, Grumberg and Peled, "Model Checking").
-use Rattle.std.specs.Prelude.{◌≡◌, ℕ, zero, suc, ◌<◌, ◌≤◌, List, length, map, slice_get, Some, ⊤}
+use Rattle.std.specs.Prelude.{◌≡◌, ℕ, zero, suc, ◌<◌, ◌≤◌, Bool, true, false, List, length, map, slice_get, Some, ⊤}
 use Rattle.sd_types.specs.declared.numbers.CpuId.{CpuId}
 use Rattle.sd_types.specs.declared.events.Entry.{Entry}
 use Rattle.sd_types.specs.declared.events.Event.{Event}
@@ -48,6 +48,11 @@ pub record IsReachedBy (w : Work) (bs : List (List ℕ)) (i : ℕ) (step : Step)
 -- each turn of processor c from state x leads to one of the states
 abbrev pub IsTurned : Work → List (List ℕ) → State → CpuId → Type 0
 IsTurned w bs x c = (e : Event) → next w x c (serial_hints w x c) ≡ Some e → Has (IsAmong bs) (after w x 0 c e)
+
+-- each turn of each processor from state x does, where all were looked at; else as many states are there as are allowed
+abbrev pub AreTurned : Work → List (List ℕ) → State → ℕ → Bool → Type 0
+AreTurned w bs x most true = (c : CpuId) → IsTurned w bs x c
+AreTurned w bs x most false = most ≤ length bs
 
 -- each turn of each processor from state number i does
 abbrev pub IsExpanded : Work → List (List ℕ) → ℕ → Type 0

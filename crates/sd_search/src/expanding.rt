@@ -6,9 +6,8 @@ ghost use Rattle.sd_machine.specs.Runs.{serial_hints};
 ghost use Rattle.sd_search.specs.Closed.{Has};
 ghost use Rattle.sd_search.specs.Spelled.{IsTurn};
 ghost use Rattle.sd_state.specs.declared.states.State.{State as StateOf};
-ghost use Rattle.sd_types.specs.declared.numbers.CpuId.{CpuId as CpuIdOf};
 ghost use Rattle.sd_encoding.specs.Ranks.{ranked};
-ghost use Rattle.sd_search.specs.Graphs.{Gathers, IsAmong, IsAt, IsGrown, IsTurned, packed};
+ghost use Rattle.sd_search.specs.Graphs.{AreTurned, Gathers, IsAmong, IsAt, IsGrown, IsTurned, packed};
 
 use crate::graph::{Graph, Step};
 use crate::packing::pack;
@@ -38,6 +37,7 @@ impl Graph {
         requires last { step.before ≡ self.old.done }
         ensures grown { OnOk result (IsGrown work.now self.old self.new) }
         ensures has { OnOk result (IsAmong (packed self.new) state.now) }
+        ensures few { OnOk result (length (packed self.new) ≤ length (packed self.old) + 1) }
     {
         let bytes = pack(alloc, state)?;
         let is_new = insert(&mut self.states, bytes)?;
@@ -62,6 +62,7 @@ impl Graph {
         requires makes { (x : StateOf) → IsAt (packed self.old) i x → next work.now x c (serial_hints work.now x c) ≡ Some event }
         ensures grown { OnOk result (IsGrown work.now self.old self.new) }
         ensures leads { OnOk result ((x : StateOf) → IsAt (packed self.old) i x → Has (IsAmong (packed self.new)) (after work.now x 0 c event)) }
+        ensures few { OnOk result (length (packed self.new) ≤ length (packed self.old) + 1) }
     {
         if i > MOST_BEFORE {
             return Err(AllocError);
@@ -88,6 +89,7 @@ impl Graph {
         requires cpu { c.0 < work.now.cpus }
         ensures grown { OnOk result (IsGrown work.now self.old self.new) }
         ensures turned { OnOk result (IsTurned work.now (packed self.new) state.now c) }
+        ensures few { OnOk result (length (packed self.new) ≤ length (packed self.old) + 1) }
     {
         let (_, event) = serial_next(work, state, c);
         match event {
@@ -96,37 +98,52 @@ impl Graph {
         }
     }
 
-    /// Puts in the states that the turns of all processors lead to from state number `i`.
+    /// Puts in the states that the turns of all processors lead to from state number `i`, and answers whether it did: it stops
+    /// where `most` are there.
     fn visit_all(
         &mut self,
         alloc: Global,
         work: &Work,
         i: usize,
         state: &State,
-    ) -> Result<(), AllocError>
+        most: usize,
+    ) -> Result<bool, AllocError>
         requires gathered { Gathers work.now self.old }
         requires at { IsAt (packed self.old) i state.now }
         requires last { i ≡ self.old.done }
+        requires few { length (packed self.old) ≤ most }
         ensures grown { OnOk result (IsGrown work.now self.old self.new) }
-        ensures turned { OnOk result ((c : CpuIdOf) → IsTurned work.now (packed self.new) state.now c) }
+        ensures few { OnOk result (length (packed self.new) ≤ most) }
+        ensures turned { IfOk result (λ all. AreTurned work.now (packed self.new) state.now most all) }
     {
         for c in 0..work.cpus {
+            if self.states.len() >= most {
+                return Ok(false);
+            }
             self.visit(alloc, work, i, state, CpuId(c))?;
         }
-        Ok(())
+        Ok(true)
     }
 
-    /// Expands one state more, the first that is not.
-    pub(crate) fn expand(&mut self, alloc: Global, work: &Work) -> Result<(), AllocError>
+    /// Expands one state more, the first that is not, or goes as far in it as `most` states allow.
+    pub(crate) fn expand(
+        &mut self,
+        alloc: Global,
+        work: &Work,
+        most: usize,
+    ) -> Result<(), AllocError>
         requires gathered { Gathers work.now self.old }
         requires more { self.old.done < length (packed self.old) }
+        requires few { length (packed self.old) ≤ most }
         ensures gathered { OnOk result (Gathers work.now self.new) }
-        ensures done { OnOk result (self.new.done ≡ self.old.done + 1) }
+        ensures few { OnOk result (length (packed self.new) ≤ most) }
+        ensures done { OnOk result ((self.new.done ≡ self.old.done + 1) ⊎ (most ≤ length (packed self.new))) }
     {
         let i = self.done;
         let state = self.state(alloc, work, i)?;
-        self.visit_all(alloc, work, i, &state)?;
-        self.done = i + 1;
+        if self.visit_all(alloc, work, i, &state, most)? {
+            self.done = i + 1;
+        }
         Ok(())
     }
 

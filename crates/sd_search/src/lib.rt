@@ -14,7 +14,7 @@ mod store;
 mod turning;
 mod witnesses;
 
-pub use exploring::{begin, explore, explore_more};
+pub use exploring::{begin, explore_more};
 pub use findings::Finding;
 pub use graph::{Graph, Step};
 pub use laws::{

@@ -13,7 +13,7 @@ use Rattle.sd_search.specs.Findings.{IsFair, IsFinding, IsShortest}
 use Rattle.sd_search.specs.Graphs.{AreApart, Gathers, HasEveryRun, packed}
 use Rattle.sd_longest.specs.declared.latency.Longest.{Longest}
 use Rattle.sd_longest.specs.declared.latency.Longest.TheVariants as longest
-use Rattle.sd_longest.specs.LongestRuns.{IsLongestRun}
+use Rattle.sd_longest.specs.LongestRuns.{IsLongestFound}
 use Rattle.sd_longest.specs.Waits.{IsLongest, IsOpenLongest}
 use Rattle.sd_search_answers.specs.declared.forms.Aim.{Aim}
 use Rattle.sd_search_answers.specs.declared.forms.Aim.TheVariants.{Find, Count, Ends, Waits}
@@ -25,12 +25,13 @@ use Rattle.sd_search_answers.specs.declared.verdicts.Verdict.TheVariants.{Done, 
 use Rattle.sd_search_answers.specs.Texts.{count_text, finding_text, longest_text, timing_text}
 use Rattle.sd_search_answers.specs.Timings.{AreShort, HasNoThread, IsThread, IsTiming}
 
--- a search of the workload: what it gathered, all of it or `most` states and those that the last one expanded leads to
+-- a search of the workload: what it gathered, all of it or `most` states, and never more than these but for the first one
 pub record IsSearch (w : Work) (most : ℕ) (g : Graph) : Type 0 where
   pub gathered : Gathers w g
   pub apart : AreApart (packed g)
   pub all : length (packed g) ≤ g.done → HasEveryRun w (packed g)
   pub ends : (length (packed g) ≤ g.done) ⊎ (most ≤ length (packed g))
+  pub few : (length (packed g) ≤ most) ⊎ (length (packed g) ≡ 1)
 
 abbrev pub verdict_of : Finding → Verdict
 verdict_of (finding.Found es) = Found
@@ -61,14 +62,14 @@ count_verdict true = Done
 count_verdict false = More
 
 -- what is said is how many states a search gathered, whether these are all, in how many of them runs end, and how many entries a run has at
--- most, where that is known
+-- most, where these are all
 pub record IsCounted (w : Work) (most : ℕ) (told : Told) : Type 0 where
   pub graph : Graph
   pub search : IsSearch w most graph
   pub finals : List ℕ
   pub are : AreFinals w (packed graph) (length (packed graph)) finals
   pub entries : Option ℕ
-  pub longest : IsLongestRun w entries
+  pub longest : IsLongestFound w graph entries
   pub verdict : told.verdict ≡ count_verdict (nat_le (length (packed graph)) graph.done)
   pub written : told.text.items ≡ count_text (nat_le (length (packed graph)) graph.done) (length (packed graph)) (length finals) entries
 

@@ -1,7 +1,7 @@
 -- What whoever watches a search is told: behind each slice of states that were expanded without an end, how many states were found, and how
 -- many turns of processors lead to the last of them.
 -- Source: this project's own.
-use Rattle.std.specs.Prelude.{◌≡◌, ℕ, zero, suc, ◌+◌, ◌*◌, ◌-◌, ◌<◌, length}
+use Rattle.std.specs.Prelude.{◌≡◌, ℕ, zero, suc, ◌*◌, ◌-◌, ◌<◌, length}
 use Rattle.sd_types.specs.declared.works.Work.{Work}
 use Rattle.sd_search.specs.declared.graph.Graph.{Graph}
 use Rattle.sd_search.specs.Graphs.{Gathers, IsDeep, packed, steps_of}
@@ -26,13 +26,12 @@ pub record IsNoted {W : Type 0} (Noted : W → W → ℕ → ℕ → Type 0) (w 
   pub report : IsReport w done states depth
   pub call : Noted before after states depth
 
--- by n calls: so many first states had been expanded when the search began, and before each call a slice more was
-abbrev pub AreNoted : {W : Type 0} → (W → W → ℕ → ℕ → Type 0) → Work → ℕ → ℕ → W → W → Type 0
-AreNoted {W} Noted w first zero before after = after ≡ before
-AreNoted {W} Noted w first (suc n) before after = (between : W) × AreNoted Noted w first n before between × IsNoted Noted w (first + suc n * slice) between after
+-- by n calls: before each call a slice more had been expanded
+abbrev pub AreNoted : {W : Type 0} → (W → W → ℕ → ℕ → Type 0) → Work → ℕ → W → W → Type 0
+AreNoted {W} Noted w zero before after = after ≡ before
+AreNoted {W} Noted w (suc n) before after = (between : W) × AreNoted Noted w n before between × IsNoted Noted w (suc n * slice) between after
 
 -- by the calls of one search, of which there may be none
 pub record IsWatched {W : Type 0} (Noted : W → W → ℕ → ℕ → Type 0) (w : Work) (before after : W) : Type 0 where
-  pub first : ℕ
   pub calls : ℕ
-  pub noted : AreNoted Noted w first calls before after
+  pub noted : AreNoted Noted w calls before after

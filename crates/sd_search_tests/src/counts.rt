@@ -111,7 +111,7 @@ const PART: [Row; 1] = [(
     Asked::Counts(Question::Stuck),
     Wanted::Unfound {
         least: 100,
-        most: 214,
+        most: 100,
     },
 )];
 

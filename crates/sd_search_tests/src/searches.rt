@@ -8,7 +8,7 @@ use crate::counts::counted;
 use crate::extremes::{entries_without, in_slices, ticks};
 use crate::latency::longest_wait_of;
 use sd_longest::longest_run;
-use sd_search::{Graph, Question, explore};
+use sd_search::{Graph, Question, begin, explore_more};
 use sd_types::Work;
 use sd_workload::read_work;
 use std::alloc::{AllocError, Global};
@@ -62,12 +62,21 @@ pub(crate) enum Wanted {
 /// A workload, the most states, what is asked, and what is wanted.
 pub(crate) type Row = (&'static [u8], usize, Asked, Wanted);
 
+/// All states, or `most`.
+fn explored(alloc: Global, work: &Work, most: usize) -> Result<Graph, AllocError>
+    ensures { IfOk result (Gathers work.now) }
+{
+    let mut graph = begin(alloc, work)?;
+    explore_more(alloc, work, &mut graph, most, usize::MAX)?;
+    Ok(graph)
+}
+
 fn states_of(alloc: Global, work: &Work, most: usize, asked: Asked) -> Result<Graph, AllocError>
     ensures { IfOk result (Gathers work.now) }
 {
     match asked {
         Asked::Slices => in_slices(alloc, work, most),
-        _ => explore(alloc, work, most),
+        _ => explored(alloc, work, most),
     }
 }
 

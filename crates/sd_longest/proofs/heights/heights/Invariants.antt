@@ -1,5 +1,6 @@
-use Rattle.std.proofs.Common.{◌≡◌, length}
+use Rattle.sd_longest.specs.Edges.{rows_of}
+use Rattle.sd_longest.specs.Heights.{AreReached}
 use Rattle.sd_longest.proofs.heights.heights.Given as goal
 
-abbrev pub invariant-loop-round : goal.invariant-loop-round
-invariant-loop-round l = length l.heights.items ≡ length l.rows
+abbrev pub invariant-loop : goal.invariant-loop
+invariant-loop l = AreReached (rows_of l.rows) l.heights.items

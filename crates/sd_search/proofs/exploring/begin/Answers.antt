@@ -5,8 +5,8 @@ use Rattle.sd_search.proofs.TurnLemmas.{begun}
 use Rattle.sd_search.proofs.StoreLemmas.{no_items}
 use Rattle.sd_search.proofs.exploring.begin.Goals as goal
 
-pub returns : goal.returns
-returns c =
+pub returns-clause-gathered : goal.returns-clause-gathered
+returns-clause-gathered c =
     let none = no_items c.new-states.result.keys c.new-states.ensures.empty in
     let step : Step = record { before = 0; cpu = record { 0 = 0 } } in
     let one = c.in_ok-push.ensures.items ∙ ap (λ (xs : List Step). xs ++ step ∷ []) c.new-steps.ensures.items in

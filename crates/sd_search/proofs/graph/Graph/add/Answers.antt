@@ -1,6 +1,7 @@
 use Rattle.std.proofs.Common.{refl}
 use Rattle.sd_search.specs.Graphs.{packed, steps_of}
 use Rattle.sd_search.proofs.GrowLemmas.{among_in, kept_in, put_in}
+use Rattle.sd_search.proofs.StoreLemmas.{few_inserted}
 use Rattle.sd_search.proofs.graph.Graph.add.Goals as goal
 
 pub returns-in_ok-push-clause-grown : goal.returns-in_ok-push-clause-grown
@@ -21,3 +22,8 @@ pub returns-in_ok-push-clause-has : goal.returns-in_ok-push-clause-has
 returns-in_ok-push-clause-has c =
     let g = c.args.self.now in
     among_in (packed g) (packed (record { states = c.insert.new.states; steps = c.push.new.self; done = g.done })) c.in_ok-bytes.bytes.items c.in_ok-is_new.is_new c.args.state.now c.in_ok-bytes.ensures.held c.in_ok-bytes.ensures.bytes c.in_ok-is_new.ensures
+
+pub returns-in_ok-push-clause-few : goal.returns-in_ok-push-clause-few
+returns-in_ok-push-clause-few c =
+    let g = c.args.self.now in
+    few_inserted (packed g) (packed (record { states = c.insert.new.states; steps = c.push.new.self; done = g.done })) c.in_ok-bytes.bytes.items c.in_ok-is_new.is_new c.in_ok-is_new.ensures

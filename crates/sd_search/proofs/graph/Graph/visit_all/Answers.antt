@@ -9,6 +9,7 @@ use Rattle.sd_search.proofs.graph.Graph.visit_all.Goals as goal
 pub loop-c-preserved : goal.loop-c-preserved
 loop-c-preserved c = record {
   grown = grown_twice c.args.work.now c.args.self.now c.loop-c.self c.visit.new.self c.loop-c.invariant.grown c.in_ok-visit.ensures.grown;
+  few = todo;
   turned = λ d few. by d few (cases_lt d.0 c.loop-c.c);
 }
   where

@@ -1,0 +1,2 @@
+use Rattle.sd_longest.proofs.ReachedLemmas as R
+use Rattle.sd_longest.proofs.heights.refresh.Goals as goal
