@@ -103,7 +103,7 @@ pub fn read_numbers(alloc: Global, bytes: &[u8]) -> Result<Option<Vec<u64>>, All
     ensures { IfOk result (λ r. option_map (λ v. v.items) r ≡ numbers_in bytes.now) }
 {
     // from the last byte to the first, since a byte that goes on needs the bits after it
-    let mut numbers = Vec::new(alloc);
+    let mut numbers = Vec::with_capacity(alloc, bytes.len())?;
     let mut index = bytes.len();
     while index > 0 {
         index -= 1;

@@ -10,6 +10,9 @@ use crate::states::{read_state, write_state};
 use sd_state::State;
 use std::alloc::{AllocError, Global};
 
+/// The numbers for which there is room from the first (this project's own): most states of a search have fewer.
+const FIRST_ROOM: usize = 512;
+
 /// Writes the bytes of a state at the end of `into`. Where memory runs out, `into` has what it had, and maybe bytes after it.
 #[tactic(auto, unfolding(crate::specs::Encoding::encoded))]
 pub fn encode(alloc: Global, state: &State, into: &mut Vec<u8>) -> Result<(), AllocError>
@@ -17,7 +20,7 @@ pub fn encode(alloc: Global, state: &State, into: &mut Vec<u8>) -> Result<(), Al
     ensures held { OnOk result (IsHeld state.now) }
     ensures kept { Extends into.old.items into.new.items }
 {
-    let mut numbers = Vec::new(alloc);
+    let mut numbers = Vec::with_capacity(alloc, FIRST_ROOM)?;
     write_state(state, &mut numbers)?;
     write_numbers(&numbers, into)
 }

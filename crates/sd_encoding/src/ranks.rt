@@ -117,7 +117,7 @@ fn ranked_duty(state: &State, duty: Duty) -> Duty
 fn ranked_places(alloc: Global, state: &State) -> Result<Vec<Place>, AllocError>
     ensures { IfOk result (λ places. places.items ≡ map (λ x. ranked_place state.now x.place) state.now.threads) }
 {
-    let mut places = Vec::new(alloc);
+    let mut places = Vec::with_capacity(alloc, state.threads.items().len())?;
     for thread in state.threads.items() {
         places.push(ranked_place(state, thread.place))?;
     }
@@ -128,7 +128,7 @@ fn ranked_places(alloc: Global, state: &State) -> Result<Vec<Place>, AllocError>
 fn ranked_duties(alloc: Global, state: &State) -> Result<Vec<Duty>, AllocError>
     ensures { IfOk result (λ duties. duties.items ≡ map (λ x. ranked_duty state.now x.duty) state.now.cpus) }
 {
-    let mut duties = Vec::new(alloc);
+    let mut duties = Vec::with_capacity(alloc, state.cpus.items().len())?;
     for cpu in state.cpus.items() {
         duties.push(ranked_duty(state, cpu.duty))?;
     }

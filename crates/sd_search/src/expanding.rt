@@ -9,6 +9,7 @@ ghost use Rattle.sd_state.specs.declared.states.State.{State as StateOf};
 ghost use Rattle.sd_encoding.specs.Ranks.{ranked};
 ghost use Rattle.sd_search.specs.Graphs.{AreTurned, Gathers, IsAmong, IsAt, IsGrown, IsTurned, packed};
 
+use crate::copying::copied_state;
 use crate::graph::{Graph, Step};
 use crate::packing::pack;
 use crate::store::insert;
@@ -47,27 +48,28 @@ impl Graph {
         Ok(())
     }
 
-    /// Puts in the state after an event of processor `c` in state number `i`.
+    /// Puts in the state after an event of processor `c` in state number `i`, which is this one.
     fn follow(
         &mut self,
         alloc: Global,
         work: &Work,
         i: usize,
+        from: &State,
         c: CpuId,
         event: Event,
     ) -> Result<(), AllocError>
         requires gathered { Gathers work.now self.old }
-        requires inside { i < length (packed self.old) }
+        requires at { IsAt (packed self.old) i from.now }
         requires last { i ≡ self.old.done }
-        requires makes { (x : StateOf) → IsAt (packed self.old) i x → next work.now x c (serial_hints work.now x c) ≡ Some event }
+        requires makes { next work.now from.now c (serial_hints work.now from.now c) ≡ Some event }
         ensures grown { OnOk result (IsGrown work.now self.old self.new) }
-        ensures leads { OnOk result ((x : StateOf) → IsAt (packed self.old) i x → Has (IsAmong (packed self.new)) (after work.now x 0 c event)) }
+        ensures leads { OnOk result (Has (IsAmong (packed self.new)) (after work.now from.now 0 c event)) }
         ensures few { OnOk result (length (packed self.new) ≤ length (packed self.old) + 1) }
     {
         if i > MOST_BEFORE {
             return Err(AllocError);
         }
-        let mut state = self.state(alloc, work, i)?;
+        let mut state = copied_state(alloc, from)?;
         apply(work, &mut state, 0, c, event);
         rank(alloc, &mut state)?;
         let before = i as u32;
@@ -93,7 +95,7 @@ impl Graph {
     {
         let (_, event) = serial_next(work, state, c);
         match event {
-            Some(event) => self.follow(alloc, work, i, c, event),
+            Some(event) => self.follow(alloc, work, i, state, c, event),
             None => Ok(()),
         }
     }

@@ -1,6 +1,7 @@
 //! The search of every order in which the processors of a workload can act.
 #![tactic(auto)]
 
+mod copying;
 mod expanding;
 mod exploring;
 mod finals;

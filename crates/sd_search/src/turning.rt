@@ -7,6 +7,7 @@ ghost use Rattle.sd_state.specs.declared.states.State.{State as StateOf};
 ghost use Rattle.sd_search.specs.Graphs.{Gathers, IsAt, packed};
 ghost use Rattle.sd_search.specs.Turns.{IsTurnOf, LeadsTo};
 
+use crate::copying::copied_state;
 use crate::graph::Graph;
 use crate::packing::pack;
 use crate::store::index_of;
@@ -24,21 +25,23 @@ pub struct Turn {
 }
 
 impl Graph {
-    /// The number of the state after an event of processor `c` in state number `i`, which was expanded.
+    /// The number of the state after an event of processor `c` in state number `i`, which is this one and was expanded.
     fn number_after(
         &self,
         alloc: Global,
         work: &Work,
         i: usize,
+        from: &State,
         c: CpuId,
         event: Event,
     ) -> Result<usize, AllocError>
         requires gathered { Gathers work.now self.now }
         requires expanded { i < self.now.done }
-        requires makes { (x : StateOf) → IsAt (packed self.now) i x → next work.now x c (serial_hints work.now x c) ≡ Some event }
-        ensures { IfOk result (λ j. (x : StateOf) → IsAt (packed self.now) i x → LeadsTo work.now (packed self.now) x c event j) }
+        requires at { IsAt (packed self.now) i from.now }
+        requires makes { next work.now from.now c (serial_hints work.now from.now c) ≡ Some event }
+        ensures { IfOk result (LeadsTo work.now (packed self.now) from.now c event) }
     {
-        let mut state = self.state(alloc, work, i)?;
+        let mut state = copied_state(alloc, from)?;
         apply(work, &mut state, 0, c, event);
         rank(alloc, &mut state)?;
         let bytes = pack(alloc, &state)?;
@@ -66,7 +69,7 @@ impl Graph {
         let (_, event) = serial_next(work, state, c);
         match event {
             Some(event) => {
-                let to = self.number_after(alloc, work, i, c, event)?;
+                let to = self.number_after(alloc, work, i, state, c, event)?;
                 Ok(Some(Turn { event, to }))
             }
             None => Ok(None),

@@ -9,7 +9,7 @@ loop-index-preserved c = record {
 }
 
 pub loop-index-init : goal.loop-index-init
-loop-index-init c = record { read = rw c.new-numbers.ensures.items (at_end c.args.bytes.now); within = omega arith }
+loop-index-init c = record { read = rw c.in_ok-numbers.ensures.items (at_end c.args.bytes.now); within = omega arith }
 
 pub returns-then-not-branch : goal.returns-then-not-branch
 returns-then-not-branch c =

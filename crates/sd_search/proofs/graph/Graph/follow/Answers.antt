@@ -8,44 +8,39 @@ use Rattle.sd_encoding.specs.Ranks.{ranked}
 use Rattle.sd_encoding.proofs.OrderRankLemmas.{ranked_order}
 use Rattle.sd_search.specs.Graphs.{packed, steps_of}
 use Rattle.sd_search.proofs.PathLemmas.{fit_at}
-use Rattle.sd_search.proofs.TellLemmas.{at_same}
 use Rattle.sd_search.proofs.TurnLemmas as T
 use Rattle.sd_search.proofs.graph.Graph.follow.Goals as goal
 
 pub apply-requires-clause-fit : goal.apply-requires-clause-fit
 apply-requires-clause-fit c =
     let g = c.args.self.now in
-    fit_at c.args.work.now (packed g) (steps_of g) g.done c.requires.gathered c.args.i c.in_ok-state.state c.in_ok-state.ensures
+    rw c.in_ok-state.ensures (fit_at c.args.work.now (packed g) (steps_of g) g.done c.requires.gathered c.args.i c.args.from.now c.requires.at)
 
 pub apply-requires-clause-needs : goal.apply-requires-clause-needs
 apply-requires-clause-needs c =
     let g = c.args.self.now in
     let w = c.args.work.now in
-    let x = c.in_ok-state.state in
-    let at = c.in_ok-state.ensures in
-    T.needs_here w (packed g) (steps_of g) g.done c.requires.gathered c.args.i x at c.args.c c.args.event (c.requires.makes x at)
+    rw c.in_ok-state.ensures (T.needs_here w (packed g) (steps_of g) g.done c.requires.gathered c.args.i c.args.from.now c.requires.at c.args.c c.args.event c.requires.makes)
 
 pub add-requires-clause-turn : goal.add-requires-clause-turn
 add-requires-clause-turn c =
     let g = c.args.self.now in
     let w = c.args.work.now in
-    let x = c.in_ok-state.state in
-    let at = c.in_ok-state.ensures in
-    let made : IsTurn w x c.args.c (ranked (after w x 0 c.args.c c.args.event)) = T.turn_made w (packed g) (steps_of g) g.done c.requires.gathered c.args.i x at c.args.c c.args.event (c.requires.makes x at) in
-    let is : c.rank.new.state ≡ ranked (after w x 0 c.args.c c.args.event) = c.in_ok-rank.ensures.ranked ∙ ap ranked c.apply.ensures in
-    (x, at, subst (λ (z : State). IsTurn w x c.args.c z) (sym is) made)
+    let x = c.args.from.now in
+    let made : IsTurn w x c.args.c (ranked (after w x 0 c.args.c c.args.event)) = T.turn_made w (packed g) (steps_of g) g.done c.requires.gathered c.args.i x c.requires.at c.args.c c.args.event c.requires.makes in
+    let is : c.rank.new.state ≡ ranked (after w x 0 c.args.c c.args.event) = c.in_ok-rank.ensures.ranked ∙ ap ranked c.apply.ensures ∙ ap (λ (z : State). ranked (after w z 0 c.args.c c.args.event)) c.in_ok-state.ensures in
+    (x, c.requires.at, subst (λ (z : State). IsTurn w x c.args.c z) (sym is) made)
 
 pub returns-clause-leads : goal.returns-clause-leads
 returns-clause-leads c =
     let w = c.args.work.now in
     on_ok_weaker c.add.result
-    (λ has x at.
-    let same : c.in_ok-state.state ≡ x = at_same (packed c.args.self.now) c.args.i c.in_ok-state.state x c.in_ok-state.ensures at in
-    let is : c.rank.new.state ≡ ranked (after w x 0 c.args.c c.args.event) = c.in_ok-rank.ensures.ranked ∙ ap ranked c.apply.ensures ∙ ap (λ z. ranked (after w z 0 c.args.c c.args.event)) same in
+    (λ has.
+    let is : c.rank.new.state ≡ ranked (after w c.args.from.now 0 c.args.c c.args.event) = c.in_ok-rank.ensures.ranked ∙ ap ranked c.apply.ensures ∙ ap (λ (z : State). ranked (after w z 0 c.args.c c.args.event)) c.in_ok-state.ensures in
     record {
       state = c.rank.new.state;
       among = has;
-      same = subst (λ (z : State). IsSameOrder z (after w x 0 c.args.c c.args.event)) (sym is) (ranked_order (after w x 0 c.args.c c.args.event));
+      same = subst (λ (z : State). IsSameOrder z (after w c.args.from.now 0 c.args.c c.args.event)) (sym is) (ranked_order (after w c.args.from.now 0 c.args.c c.args.event));
     })
     c.add.ensures.has
 
