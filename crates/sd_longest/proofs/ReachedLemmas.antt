@@ -50,3 +50,8 @@ module _ (rows : List (List Edge)) where
       by j within (inr least) (inr most) =
           let same : j ≡ i = omega (arith, least, most) in
           subst (λ n. HasWay rows n (slice_index (slice_set hs i k) n)) (sym same) (subst (HasWay rows i) (sym (get_or-set_same hs i k 0 inside)) way)
+
+  -- where the first state is too high, so many edges follow one another from it
+  pub too_high : (hs : List ℕ) → AreReached rows hs → 0 < length hs → (4294967295 ≤ slice_index hs 0) ⊎ (length hs ≤ slice_index hs 0) → HasWay rows 0 4294967295 ⊎ HasWay rows 0 (length rows)
+  too_high hs reached some (inl great) = inl (shorter 0 4294967295 (slice_index hs 0) great (reached.each 0 some))
+  too_high hs reached some (inr round) = inr (shorter 0 (length rows) (slice_index hs 0) (let many = reached.many in omega (arith, many, round)) (reached.each 0 some))

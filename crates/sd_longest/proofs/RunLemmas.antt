@@ -43,6 +43,32 @@ one_entry w n k s e number step shown rest = record {
   many = ap suc rest.many;
 }
 
+module _ (w : Work) (bs : List (List ℕ)) (steps : List Step) (done : ℕ) (g : IsGathered w bs steps done) (t : ThreadId) (rows : List (List Edge)) (a : AreRows w bs t (length bs) rows) where
+  start : IsNear w bs 0 (opening w) 0
+  start = record { state = g.start; at = g.start_at; same = g.opens; reached = opening_reached w }
+
+  -- entries follow along edges
+  along : (n : ℕ) (s : State) (i : ℕ) (es : List Edge) → IsNear w bs n s i → Follow rows i es → HasEntries w n s (length es)
+  unfolding Follow
+  along n s i [] near follow = no_entries w n s
+  along n s i (e ∷ es) near (at, rest) =
+      let one = taken w bs steps done g t rows a n s i e near at in
+      let more = along (n + 1) (after w s n e.cpu one.event) e.to es one.near rest in
+      one_entry w n (length es) s (entry_of w n s e.cpu one.event) refl one.step refl more
+
+  -- as many as edges follow one another from the first state, or more
+  pub many_of : (k : ℕ) → HasWay rows 0 k → HasLongRun w k
+  many_of k way =
+      let long = along 0 (opening w) 0 way.edges start way.follow in
+      let enough = way.many in
+      let same = long.many in
+      record { entries = long.entries; run = record { run = from-IsRun w long.entries long.run; fresh = long.fresh }; many = omega (arith, enough, same) }
+
+  -- where the heights are not told
+  pub untold_of : HasWay rows 0 4294967295 ⊎ HasWay rows 0 (length rows) → IsLongestRun w (length bs) None
+  untold_of (inl great) = inl (many_of 4294967295 great)
+  untold_of (inr round) = inr (many_of (length bs) (subst (HasWay rows 0) a.many round))
+
 module _ (w : Work) (bs : List (List ℕ)) (steps : List Step) (done : ℕ) (g : IsGathered w bs steps done) (t : ThreadId) (rows : List (List Edge)) (a : AreRows w bs t (length bs) rows) (hs : List ℕ) (heights : AreHeights rows hs) where
   bounded : (n : ℕ) (s : State) (i : ℕ) (es : List Entry) → IsNear w bs n s i → IsRunFrom w s n es → IsFresh w s es → length es ≤ slice_index hs i
   bounded n s i [] near run fresh = omega arith
@@ -70,37 +96,12 @@ module _ (w : Work) (bs : List (List ℕ)) (steps : List Step) (done : ℕ) (g :
           let rest = next (n + 1) (after w s n e.cpu one.event) e.to one.near (omega (arith, is, above)) in
           one_entry w n k s (entry_of w n s e.cpu one.event) refl one.step refl rest
 
-  -- entries follow along edges
-  along : (n : ℕ) (s : State) (i : ℕ) (es : List Edge) → IsNear w bs n s i → Follow rows i es → HasEntries w n s (length es)
-  unfolding Follow
-  along n s i [] near follow = no_entries w n s
-  along n s i (e ∷ es) near (at, rest) =
-      let one = taken w bs steps done g t rows a n s i e near at in
-      let more = along (n + 1) (after w s n e.cpu one.event) e.to es one.near rest in
-      one_entry w n (length es) s (entry_of w n s e.cpu one.event) refl one.step refl more
-
-  start : IsNear w bs 0 (opening w) 0
-  start = record { state = g.start; at = g.start_at; same = g.opens; reached = opening_reached w }
-
   pub longest_of : HasMost w (slice_index hs 0)
   longest_of =
-      let long = reached (slice_index hs 0) 0 (opening w) 0 start refl in
+      let long = reached (slice_index hs 0) 0 (opening w) 0 (start w bs steps done g t rows a) refl in
       record {
         entries = long.entries;
         run = record { run = from-IsRun w long.entries long.run; fresh = long.fresh };
         many = long.many;
-        most = λ es r. bounded 0 (opening w) 0 es start (IsRun-from w es r.run) r.fresh;
+        most = λ es r. bounded 0 (opening w) 0 es (start w bs steps done g t rows a) (IsRun-from w es r.run) r.fresh;
       }
-
-  -- as many as edges follow one another from the first state, or more
-  pub many_of : (k : ℕ) → HasWay rows 0 k → HasLongRun w k
-  many_of k way =
-      let long = along 0 (opening w) 0 way.edges start way.follow in
-      let enough = way.many in
-      let same = long.many in
-      record { entries = long.entries; run = record { run = from-IsRun w long.entries long.run; fresh = long.fresh }; many = omega (arith, enough, same) }
-
-  -- where the heights are not told
-  pub untold_of : HasWay rows 0 4294967295 ⊎ HasWay rows 0 (length rows) → IsLongestRun w (length bs) None
-  untold_of (inl great) = inl (many_of 4294967295 great)
-  untold_of (inr round) = inr (many_of (length bs) (subst (HasWay rows 0) a.many round))

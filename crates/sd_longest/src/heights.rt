@@ -89,8 +89,8 @@ fn lowest(alloc: Global, states: usize) -> Result<Vec<u32>, AllocError>
 /// The first state has the greatest height that can be told, or as many edges follow one another from it as there are states:
 /// along a circle heights rise without end.
 fn is_too_high(heights: &[u32]) -> bool
-    ensures { IsTrue result → (4294967295 ≤ slice_index heights.now 0) ⊎ (length heights.now ≤ slice_index heights.now 0) }
-    ensures empty { IsTrue result → 0 < length heights.now }
+    ensures high { IsTrue result → (4294967295 ≤ slice_index heights.now 0) ⊎ (length heights.now ≤ slice_index heights.now 0) }
+    ensures some { IsTrue result → 0 < length heights.now }
 {
     match heights.first() {
         Some(&height) => height == u32::MAX || heights.len() <= height as usize,

@@ -143,9 +143,10 @@ impl Graph {
     {
         let i = self.done;
         let state = self.state(alloc, work, i)?;
-        if self.visit_all(alloc, work, i, &state, most)? {
-            self.done = i + 1;
+        if !self.visit_all(alloc, work, i, &state, most)? {
+            return Ok(());
         }
+        self.done = i + 1;
         Ok(())
     }
 

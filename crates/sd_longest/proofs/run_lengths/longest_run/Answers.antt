@@ -40,8 +40,8 @@ first-requires c =
     omega (arith, some, many, as_many, same)
 
 -- what was searched
-closed : (w : Work) (g : Graph) (o : Option ℕ) → nat_le (length (packed g)) g.done ≡ true → IsLongestRun w (length (packed g)) o → IsLongestFound w g o
-closed w g o is longest = inr (let within : length (packed g) ≤ g.done = grind (arith, nat_tests) in within, longest)
+closed : (w : Work) (g : Graph) (o : Option ℕ) (b : Bool) → b ≡ nat_le (length (packed g)) g.done → b ≡ true → IsLongestRun w (length (packed g)) o → IsLongestFound w g o
+closed w g o b same is longest = let all = sym same ∙ is in inr (let within : length (packed g) ≤ g.done = grind (arith, nat_tests) in within, longest)
 
 pub returns-in-Some : goal.returns-in-Some
 returns-in-Some c =
@@ -53,10 +53,10 @@ returns-in-Some c =
     let are = subst (λ (rs : List (Vec Edge Global)). AreRows w bs t (length bs) (rows_of rs)) (sym c.deref.ensures.value) c.in_ok-rows.ensures in
     let heights = subst (λ (o : Option (Vec ℕ Global)). IfSome o (λ hs. AreHeights rows hs.items)) c.in-Some.is c.in_ok-heights.ensures.heights in
     let same = c.first.ensures ∙ ap (λ (hs : List ℕ). slice_index hs 0) c.deref-in-Some.ensures.value in
-    closed w g (Some c.first.result) (sym c.is_closed.ensures ∙ c.if-is_closed.false) (subst (λ k. HasMost w k) (sym same) (longest_of w bs (steps_of g) g.done c.requires t rows are c.in-Some.heights.items heights))
+    closed w g (Some c.first.result) c.is_closed.result c.is_closed.ensures c.if-not-is_closed.false (subst (λ k. HasMost w k) (sym same) (longest_of w bs (steps_of g) g.done c.requires t rows are c.in-Some.heights.items heights))
 
-pub returns-in-None : goal.returns-in-None
-returns-in-None c =
+pub returns : goal.returns
+returns c =
     let g = c.args.graph.now in
     let w = c.args.work.now in
     let bs = packed g in
@@ -64,4 +64,4 @@ returns-in-None c =
     let rows = rows_of c.deref.result.now in
     let are = subst (λ (rs : List (Vec Edge Global)). AreRows w bs t (length bs) (rows_of rs)) (sym c.deref.ensures.value) c.in_ok-rows.ensures in
     let untold = subst (λ (o : Option (Vec ℕ Global)). AreUntold rows o) c.in-None.is c.in_ok-heights.ensures.untold in
-    closed w g None (sym c.is_closed.ensures ∙ c.if-is_closed.false) (untold_of w bs (steps_of g) g.done c.requires t rows are untold)
+    closed w g None c.is_closed.result c.is_closed.ensures c.if-not-is_closed.false (untold_of w bs (steps_of g) g.done c.requires t rows are untold)

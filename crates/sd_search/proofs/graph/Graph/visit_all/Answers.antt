@@ -1,5 +1,6 @@
 use Rattle.std.proofs.Common.{◌≡◌, ℕ, ◌+◌, ◌<◌, ◌≤◌, subst, arith, inl, inr, ◌⊎◌}
 use Rattle.std.proofs.lemmas.Bool.{cases_lt}
+use Rattle.std.proofs.lemmas.List.{length-map}
 use Rattle.sd_types.specs.declared.numbers.CpuId.{CpuId}
 use Rattle.sd_search.specs.Graphs.{IsTurned, packed}
 use Rattle.sd_search.proofs.GrowLemmas.{grown_twice, turned_kept}
@@ -9,7 +10,7 @@ use Rattle.sd_search.proofs.graph.Graph.visit_all.Goals as goal
 pub loop-c-preserved : goal.loop-c-preserved
 loop-c-preserved c = record {
   grown = grown_twice c.args.work.now c.args.self.now c.loop-c.self c.visit.new.self c.loop-c.invariant.grown c.in_ok-visit.ensures.grown;
-  few = todo;
+  few = let room = c.if-len-most.false in let len = c.len.ensures.len in let one = c.in_ok-visit.ensures.few in let many = length-map c.loop-c.self.states.keys (λ v. v.items) in omega (arith, room, len, one, many);
   turned = λ d few. by d few (cases_lt d.0 c.loop-c.c);
 }
   where
