@@ -1,10 +1,11 @@
--- Calls of the three programs on texts in memory.
+-- Calls of the four programs on texts in memory.
 -- Source: this project's own.
 use Rattle.std.specs.Prelude.{◌≡◌, ℕ, List, [], ◌∷◌, ◌++◌, codes, Some}
 use Rattle.sd_answers.specs.StreamChanges.{StreamChange}
 use Rattle.sd_find.specs.Asked.{asked}
 use Rattle.sd_find.specs.Promises as finder
 use Rattle.sd_program.specs.Headline.{KeepsPromises}
+use Rattle.sd_task_program.specs.Promises as tasks
 use Rattle.sd_viewer.specs.Promises as viewer
 
 -- A call read these bytes, wrote this text on an output that was empty, and returned this status, and this holds of what it
@@ -31,6 +32,10 @@ Views word certificate text status = Writes (viewer.ShowsAsPromised (word ∷ []
 -- `dispfind`, with these arguments and on this workload, wrote this text and returned this status
 abbrev pub Finds : List (List ℕ) → List ℕ → List ℕ → ℕ → Type 0
 Finds arguments workload text status = Writes (finder.SearchesAsPromised (asked arguments)) workload text status
+
+-- `disptask`, with no argument and on this task set, wrote this text and returned this status
+abbrev pub Expands : List ℕ → List ℕ → ℕ → Type 0
+Expands set text status = Writes (tasks.ExpandsAsPromised []) set text status
 
 -- a workload and a journal as one text
 abbrev pub certificate_of : List ℕ → List ℕ → List ℕ

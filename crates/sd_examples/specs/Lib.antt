@@ -1,5 +1,5 @@
+pub mod Answers
 pub mod Calls
 pub mod Outcomes
-pub mod Searches
 pub mod Traces
 pub mod Verdicts

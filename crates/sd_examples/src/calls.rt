@@ -1,11 +1,12 @@
-//! Calls of the three programs over inputs and outputs in memory.
+//! Calls of the four programs over inputs and outputs in memory.
 
 ghost use Rattle.std.specs.Prelude.{◌≡◌, [], ◌∷◌, IfOk, map, string_bytes};
-ghost use Rattle.sd_examples.specs.Calls.{certificate_of, Finds, Runs, Views};
+ghost use Rattle.sd_examples.specs.Calls.{certificate_of, Expands, Finds, Runs, Views};
 ghost use Rattle.sd_examples.specs.Outcomes.{IsDrawing, IsRun};
 
 use sd_find::{Progress, find};
 use sd_program::{OpenGate, serial};
+use sd_task_program::expand_set;
 use sd_text::{MemorySink, MemorySource};
 use sd_viewer::view;
 use std::alloc::{AllocError, Global};
@@ -60,7 +61,7 @@ fn call_run(alloc: Global, workload: &[u8]) -> Result<Finished, AllocError>
 }
 
 /// Calls `dispview` on the certificate, with the word as its argument.
-fn call_view(alloc: Global, word: &str, certificate: &[u8]) -> Result<Finished, AllocError>
+pub fn call_view(alloc: Global, word: &str, certificate: &[u8]) -> Result<Finished, AllocError>
     ensures { IfOk result (λ call. Views word.now certificate.now call.out.held call.status) }
 {
     let arguments = one_argument(alloc, word)?;
@@ -87,6 +88,18 @@ pub fn search(alloc: Global, arguments: &[String], workload: &[u8]) -> Result<Fi
         &mut err,
         &mut unseen,
     );
+    Ok(Finished { status, out })
+}
+
+/// Calls `disptask` on the task set.
+pub fn expand(alloc: Global, set: &[u8]) -> Result<Finished, AllocError>
+    ensures { IfOk result (λ call. Expands set.now call.out.held call.status) }
+{
+    let arguments = Vec::new(alloc);
+    let mut input = input_of(alloc, set)?;
+    let mut out = output(alloc)?;
+    let mut err = output(alloc)?;
+    let status = expand_set(alloc, &arguments, &mut input, &mut out, &mut err);
     Ok(Finished { status, out })
 }
 

@@ -1,7 +1,9 @@
 //! The files of the examples: NAME.workload, its picture NAME.svg, NAME.json where the trace is stored too, NAME.journal where
-//! the run is not that of `dispsim run`, and NAME.find where an answer of `dispfind` is stored: its first line has the arguments.
+//! the run is not that of `dispsim run`, NAME.find where an answer of `dispfind` is stored: its first line has the arguments;
+//! NAME.set where NAME.workload is the expansion of this task set, and NAME.report where a report is stored.
 
-use crate::searches::{Searched, judge_search};
+use crate::answers::{Compared, judge_expansion, judge_report, judge_search};
+use crate::calls::{Outcome, run};
 use crate::verdicts::{Verdict, judge};
 use anyhow::{Context, Result};
 use std::alloc::Global;
@@ -77,16 +79,69 @@ pub fn judge_answer<R: Files + AllocGlobal>(
     rt: &R,
     folder: &str,
     name: &str,
-) -> Result<Option<Searched>> {
+) -> Result<Option<Compared>> {
     let alloc = rt.alloc();
-    let stored = read_if_there(rt, format!(in alloc; "{folder}/{name}.find")?.as_str())?;
-    let Some(stored) = stored else {
+    let Some(stored) = read_if_there(rt, format!(in alloc; "{folder}/{name}.find")?.as_str())? else {
         return Ok(None);
     };
     let text = std::str::from_utf8(stored.as_slice())?;
     let (line, answer) = text.split_once('\n').context("no arguments")?;
     let arguments = words_of(alloc, line)?;
     let workload = read_file(rt, format!(in alloc; "{folder}/{name}.workload")?.as_str())?;
-    let searched = judge_search(alloc, &arguments, &workload, answer.as_bytes())?;
-    Ok(Some(searched))
+    let compared = judge_search(alloc, &arguments, &workload, answer.as_bytes())?;
+    Ok(Some(compared))
+}
+
+/// Reads a task set and its stored expansion and judges this; None where the example is no task set.
+pub fn judge_set<R: Files + AllocGlobal>(
+    rt: &R,
+    folder: &str,
+    name: &str,
+) -> Result<Option<Compared>> {
+    let alloc = rt.alloc();
+    let Some(set) = read_if_there(rt, format!(in alloc; "{folder}/{name}.set")?.as_str())? else {
+        return Ok(None);
+    };
+    let workload = read_file(rt, format!(in alloc; "{folder}/{name}.workload")?.as_str())?;
+    let compared = judge_expansion(alloc, &set, &workload)?;
+    Ok(Some(compared))
+}
+
+/// The stored journal of an example, or that of its run; None where it does not run.
+fn journal_of<R: Files + AllocGlobal>(
+    rt: &R,
+    folder: &str,
+    name: &str,
+    workload: &[u8],
+) -> Result<Option<Vec<u8>>> {
+    let alloc = rt.alloc();
+    let stored = read_if_there(rt, format!(in alloc; "{folder}/{name}.journal")?.as_str())?;
+    if stored.is_some() {
+        return Ok(stored);
+    }
+    match run(alloc, workload)? {
+        Outcome::Wrote(journal) => Ok(Some(Vec::from_slice(alloc, journal.bytes())?)),
+        Outcome::Refused { .. } => Ok(None),
+    }
+}
+
+/// Reads the stored report of an example and judges it; None where none is stored, or where the example does not run. The report
+/// of a task set is that of the set, and not of its expansion.
+pub fn judge_stored_report<R: Files + AllocGlobal>(
+    rt: &R,
+    folder: &str,
+    name: &str,
+) -> Result<Option<Compared>> {
+    let alloc = rt.alloc();
+    let Some(stored) = read_if_there(rt, format!(in alloc; "{folder}/{name}.report")?.as_str())? else {
+        return Ok(None);
+    };
+    let workload = read_file(rt, format!(in alloc; "{folder}/{name}.workload")?.as_str())?;
+    let Some(journal) = journal_of(rt, folder, name, &workload)? else {
+        return Ok(None);
+    };
+    let set = read_if_there(rt, format!(in alloc; "{folder}/{name}.set")?.as_str())?;
+    let source = set.unwrap_or(workload);
+    let compared = judge_report(alloc, &source, &journal, &stored)?;
+    Ok(Some(compared))
 }

@@ -1,16 +1,16 @@
 //! Looks through the examples: the picture of each is the one that the program makes of its workload, its trace is JSON, and the
-//! answer of a search that is stored is the one that is found.
+//! answers of searches, the expansions of task sets and the reports that are stored are those that the programs write.
 #![tactic(auto)]
 
+mod answers;
 mod calls;
 mod files;
-mod searches;
 mod traces;
 mod verdicts;
 
+use answers::Compared;
 use anyhow::{Result, ensure};
-use files::{folder_of, judge_answer, judge_example, names_of};
-use searches::Searched;
+use files::{folder_of, judge_answer, judge_example, judge_set, judge_stored_report, names_of};
 use std::rt::Files;
 use verdicts::Verdict;
 
@@ -28,13 +28,18 @@ fn report<R: Files + Print + AllocGlobal>(rt: &R, folder: &str, name: &str) -> R
     }
 }
 
-/// Prints what is said of the stored answer of an example, where there is one, and returns whether it is as stored.
-fn report_answer<R: Files + Print + AllocGlobal>(rt: &R, folder: &str, name: &str) -> Result<bool> {
-    match judge_answer(rt, folder, name) {
+/// Prints what is said of a stored text of an example, where there is one, and returns whether it is as stored.
+fn report_stored<R: Print>(
+    rt: &R,
+    name: &str,
+    what: &str,
+    judged: Result<Option<Compared>>,
+) -> Result<bool> {
+    match judged {
         Ok(None) => Ok(true),
-        Ok(Some(searched)) => {
-            println!(rt; "{name}: {searched}")?;
-            Ok(matches!(searched, Searched::Same { .. }))
+        Ok(Some(compared)) => {
+            println!(rt; "{name}: {what} {compared}")?;
+            Ok(matches!(compared, Compared::Same { .. }))
         }
         Err(error) => {
             println!(rt; "{name}: {error:#}")?;
@@ -49,7 +54,9 @@ fn main(rt: HostRuntime) -> Result<()> {
     let mut agree = !names.is_empty();
     for name in &names {
         agree &= report(&rt, &folder, name)?;
-        agree &= report_answer(&rt, &folder, name)?;
+        agree &= report_stored(&rt, name, "answer", judge_answer(&rt, &folder, name))?;
+        agree &= report_stored(&rt, name, "expansion", judge_set(&rt, &folder, name))?;
+        agree &= report_stored(&rt, name, "report", judge_stored_report(&rt, &folder, name))?;
     }
     let count = names.len();
     println!(rt; "{count} examples")?;
