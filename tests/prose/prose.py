@@ -30,13 +30,13 @@ WORDS = {
 
 
 def paragraphs(text):
-    """The running text: (line number, text) of each paragraph or item, without code, tables and headings."""
+    """The running text: (line number, text) of each paragraph or item, without code, tables, headings and quotations."""
     found, lines, start, in_code = [], [], 0, False
     for number, line in enumerate(text.splitlines() + [""], 1):
         if line.startswith("```"):
             in_code = not in_code
             line = ""
-        is_text = bool(line.strip()) and not in_code and line.lstrip()[0] not in "|#<!["
+        is_text = bool(line.strip()) and not in_code and line.lstrip()[0] not in "|#<![>"
         begins = bool(re.match(r"\s*([-*]|\d+\.) ", line))
         if lines and (not is_text or begins):
             found.append((start, " ".join(lines)))
@@ -44,7 +44,7 @@ def paragraphs(text):
         if is_text:
             if not lines:
                 start = number
-            lines.append(re.sub(r"^\s*([-*]|\d+\.) ", "", line).strip().lstrip("> "))
+            lines.append(re.sub(r"^\s*([-*]|\d+\.) ", "", line).strip())
     return found
 
 
