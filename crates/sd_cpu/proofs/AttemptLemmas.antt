@@ -1,5 +1,5 @@
 -- From what a processor found to the entry that it makes.
-use Rattle.std.proofs.Common.{◌≡◌, ◌≢◌, ℕ, zero, suc, ◌<◌, ◌≤◌, Bool, true, false, ◌==◌, ◌&&◌, List, [], ◌∷◌, length, get_or, slice_get, Option, Some, None, Result, Ok, Err, refl, sym, ap, ◌∙◌, subst, ⊎_elim, arith, option_map, if◌then◌else◌}
+use Rattle.std.proofs.Common.{◌≡◌, ◌≢◌, ℕ, zero, suc, ◌<◌, ◌≤◌, Bool, true, false, ◌==◌, ◌&&◌, List, [], ◌∷◌, ◌++◌, length, get_or, slice_get, Option, Some, None, Result, Ok, Err, refl, sym, ap, ◌∙◌, subst, ⊎_elim, arith, option_map, if◌then◌else◌}
 use Rattle.std.specs.Prelude.{nat_le, nat_lt, not, ◌||◌}
 use Rattle.std.specs.List.{list_all}
 use Rattle.std.proofs.lemmas.Bool.{cases_eq, eq-eqb}
@@ -26,7 +26,7 @@ use Rattle.sd_dispatcher.specs.declared.reading.Reading.{Reading}
 use Rattle.sd_dispatcher.specs.Reading.{parts}
 use Rattle.sd_hand.specs.declared.acting.Actor.{Actor}
 use Rattle.sd_types.specs.Limits.{most_entries}
-use Rattle.sd_world.specs.Worlds.{AllHinted, CanCommit, HasReserved, Holds, IsGood, Makes, MayStand, MayUse, Meaning, NoneBehind, ReadsCounts, Reserves, Rises, Stays, actor_of, after_run, now}
+use Rattle.sd_world.specs.Worlds.{AllHinted, CanCommit, HasReserved, Holds, IsBehind, IsGood, Makes, MayStand, MayUse, Meaning, NoneBehind, ReadsCounts, Reserves, Stays, actor_of, after_run, note, now}
 use Rattle.sd_types.specs.declared.events.Stop.{Stop}
 use Rattle.sd_types.specs.declared.events.Stop.TheVariants.{Full, Memory}
 use Rattle.sd_store.specs.Parts.{IsAmong}
@@ -275,7 +275,7 @@ pub hinders : (m m' : Meaning) (e : Event) (hints : Option Hints) (t : Turned) �
 hinders m m' e hints (Acted n) good comes is counts h = absurd h
 hinders m m' e hints (Ticked n) good comes is counts h = absurd h
 hinders m m' e hints (Behind c n) good comes is counts h =
-    (rests m m' e hints good comes is counts (λ alone. another_behind m m.seen c.0 good good.stands h.5 (subst (λ k. k < m.acting.actor.count) (h.4 alone) h.1)), h.0, h.1, h.2, h.3)
+    (rests m m' e hints good comes is counts (λ alone. another_behind m m.seen c.0 good good.stands h.1.there (subst (λ k. k < m.acting.actor.count) (h.1.own alone) h.1.less)), h.0, h.1)
 hinders m m' e hints Finished good comes is counts h = (rests m m' e hints good comes is counts (λ alone. limit_reached m m.seen good.stands h), h)
 
 -- calls that made no entry, before a turn
@@ -291,15 +291,25 @@ rests_from m m' m'' s x = record {
       ∙ ap (λ h. next m'.work (after_run m' h) (actor_of m') (serial_hints m'.work (after_run m' h) (actor_of m'))) (sym (s.still alone)) ∙ x.none (s.alone ∙ alone);
 }
 
+behind_from : (m m' m'' : Meaning) (c n : ℕ) → Looks m m' → IsBehind m' m'' c n → IsBehind m m'' c n
+behind_from m m' m'' c n l x = record {
+  less = subst (λ (a : Actor). n < a.count) l.stays.actor x.less;
+  there = subst (λ w. c < w.cpus) l.stays.work x.there;
+  other = subst (λ (a : Actor). c ≢ a.cpu.0) l.stays.actor x.other;
+  reached = x.reached;
+  own = λ alone. x.own (l.stays.alone ∙ alone) ∙ (ap (λ h. (cpu_of (after_run m' h) c).count) (l.stays.still alone) ∙ sym (same_state m m' m.seen l.stays (λ w s d. (cpu_of s c).count)));
+  newest = λ shared.
+      let (more, is) = x.newest (l.stays.alone ∙ shared) in
+      (more, subst (λ ns. m''.notes ≡ note c n ∷ (more ++ ns)) l.quiet.notes is);
+}
+
 turns_from : (m m' m'' : Meaning) (t : Turned) → Looks m m' → AttemptTakesTurn m' m'' t → AttemptTakesTurn m m'' t
 turns_from m m' m'' (Acted n) l x = one_from m m' m'' n false l.stays x
 turns_from m m' m'' (Ticked n) l x = one_from m m' m'' n true l.stays x
 turns_from m m' m'' (Behind c n) l x = (
   rests_from m m' m'' l.stays x.0,
   subst (λ w. m.acting.actor.count < w.limit) l.stays.work (subst (λ (a : Actor). a.count < m'.work.limit) l.stays.actor x.1),
-  subst (λ (a : Actor). n < a.count) l.stays.actor x.2,
-  subst (λ k. Rises k m''.reads) l.quiet.reads x.3,
-  x.4,
+  behind_from m m' m'' c.0 n l x.2,
 )
 turns_from m m' m'' Finished l x =
     (rests_from m m' m'' l.stays x.0, subst (λ w. w.limit ≤ m.acting.actor.count) l.stays.work (subst (λ (a : Actor). m'.work.limit ≤ a.count) l.stays.actor x.1))

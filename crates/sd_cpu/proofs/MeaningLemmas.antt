@@ -19,7 +19,7 @@ use Rattle.sd_homes.specs.Standing.{look_of}
 use Rattle.sd_hand.specs.Hands.{AreApart, held}
 use Rattle.sd_hand.proofs.SlotLemmas.{same_home_self, same_home_true}
 use Rattle.sd_types.specs.Limits.{most_entries}
-use Rattle.sd_world.specs.Worlds.{Begins, Commits, Gains, IsGood, IsQuiet, MayStand, Meaning, ReadsCounts, Rises, Stays, actor_of, after_run, entry_of, now, slots_of}
+use Rattle.sd_world.specs.Worlds.{Begins, Commits, Gains, IsBehind, IsGood, IsQuiet, MayStand, Meaning, Rises, Stays, actor_of, after_run, entry_of, now, slots_of}
 use Rattle.sd_world.proofs.WorldLemmas.{begins_then, quiet_same, quiet_then, stays_same, stays_then}
 use Rattle.sd_cpu.specs.declared.attempts.Attempted.{Attempted}
 use Rattle.sd_cpu.specs.declared.attempts.Turned.{Turned}
@@ -178,10 +178,20 @@ one_then m m' m'' n b x s =
 rests_then : (m m' m'' : Meaning) → MayNotTick m m' → Stays m' m'' → MayNotTick m m''
 rests_then m m' m'' x s = record { idles = idles_then m m' m'' x.idles s; run = x.run; after = x.after; before = begins_then x.run m'.seen m''.seen x.before s.begins; hints = x.hints; wish = x.wish; none = x.none }
 
+behind_then : (m m' m'' : Meaning) (c n : ℕ) → IsBehind m m' c n → Stays m' m'' → IsQuiet m' m'' → IsBehind m m'' c n
+behind_then m m' m'' c n x s q = record {
+  less = x.less;
+  there = x.there;
+  other = x.other;
+  reached = s.counted c n x.reached;
+  own = x.own;
+  newest = λ shared. let (more, is) = x.newest shared in (more, q.notes ∙ is);
+}
+
 pub turns_then : (m m' m'' : Meaning) (t : Turned) → AttemptTakesTurn m m' t → Stays m' m'' → IsQuiet m' m'' → AttemptTakesTurn m m'' t
 turns_then m m' m'' (Acted n) x s q = one_then m m' m'' n false x s
 turns_then m m' m'' (Ticked n) x s q = one_then m m' m'' n true x s
-turns_then m m' m'' (Behind c n) x s q = (rests_then m m' m'' x.0 s, x.1, x.2, subst (λ k. Rises m.reads k) (sym q.reads) x.3, q.last ∙ x.4)
+turns_then m m' m'' (Behind c n) x s q = (rests_then m m' m'' x.0 s, x.1, behind_then m m' m'' c.0 n x.2 s q)
 turns_then m m' m'' Finished x s q = (rests_then m m' m'' x.0 s, x.1)
 
 pub hindered_then : (m m' m'' : Meaning) → IsHindered m m' → Stays m' m'' → IsQuiet m' m'' → IsHindered m m''
@@ -231,6 +241,3 @@ stays_passed before now d a e stays = subst (λ (x : Attempted). StaysPassed bef
 -- calls that leave what is held
 pub looks_still : (m m' : Meaning) → Stays m m' → IsQuiet m m' → m'.acting ≡ m.acting → Looks m m'
 looks_still m m' s q same = record { stays = s; quiet = q; narrows = λ h may. may_same m m' h s same may }
-
-pub counts_same : (m : Meaning) → ReadsCounts m m
-counts_same m = record { stays = stays_same m; stops = refl; reads = (let z : m.reads ≤ m.reads = omega arith in z); acting = refl }

@@ -167,16 +167,19 @@ module _ (m : Meaning) (good : IsGood m) (h : List Entry) (may : MayStand m h) w
 -- what is lacking of what is sought can be fetched
 pub can_fetch : (m : Meaning) (good : IsGood m) (hints : Option Hints) (p : Part) → HoldsToMake m hints → IsSought m.work (now m) (actor_of m) hints p → IsPartThere (now m) (actor_of m) p → has_part m.acting p ≡ false
     → CanFetch m p
-can_fetch m good hints p holds sought there lacks = by p sought there lacks (few m.all refl)
+can_fetch m good hints p holds sought there lacks = by p there lacks not_all (room m good m.seen good.stands hints p not_all holds sought there lacks)
   where
-    few : (b : Bool) → m.all ≡ b → how_many_held (slots_of m) < 4
+    few : (b : Bool) → m.all ≡ b → m.all ≡ false
     few true e = absurd (false≢true (sym lacks ∙ good.everything e m.seen good.stands p there))
-    few false e = room m good m.seen good.stands hints p e holds sought there lacks
+    few false e = e
 
-    by : (q : Part) → IsSought m.work (now m) (actor_of m) hints q → IsPartThere (now m) (actor_of m) q → has_part m.acting q ≡ false → how_many_held (slots_of m) < 4 → CanFetch m q
-    by (part.Home k) s there lacks less = record { room = less; there = there; fresh = lacks }
-    by (part.Thread t) s there lacks less = record { room = less; there = there; fresh = lacks }
-    by (part.Actor d) s there lacks less = not_actor m good m.seen good.stands (part.Actor d) (ap part.Actor there) lacks
+    not_all : m.all ≡ false
+    not_all = few m.all refl
+
+    by : (q : Part) → IsPartThere (now m) (actor_of m) q → has_part m.acting q ≡ false → m.all ≡ false → how_many_held (slots_of m) < 4 → CanFetch m q
+    by (part.Home k) there lacks few less = (record { there = there; room = λ _. less; fresh = λ _. lacks }, few)
+    by (part.Thread t) there lacks few less = (record { there = there; room = λ _. less; fresh = λ _. lacks }, few)
+    by (part.Actor d) there lacks few less = not_actor m good m.seen good.stands (part.Actor d) (ap part.Actor there) lacks
 
 -- the home lies there in which a part was fetched
 pub fetched_home : (m : Meaning) (x : Home) (p : Part) (h : List Entry) → MayStand m h → held (home_id x) (slots_of m) ≡ Some x → HomeHas x p → home_in (after_run m h) p ≡ Some (home_id x)

@@ -193,8 +193,8 @@ way_more m m' e q good f among way = record {
 }
 
 pub room_of : (m : Meaning) (p : Part) → CanFetch m p → how_many_held (slots_of m) < 4
-room_of m (part.Home k) can = can.room
-room_of m (part.Thread t) can = can.room
+room_of m (part.Home k) can = can.0.room can.1
+room_of m (part.Thread t) can = can.0.room can.1
 room_of m (part.Actor d) can = absurd can
 
 -- a world that has all has what the event touches

@@ -77,9 +77,8 @@ module _ (m m' m'' : Meaning) (i : Idles m m') where
   turn_after (Behind c n) x = (
     rests_after x.0,
     subst (λ (w : Rattle.sd_types.specs.declared.works.Work.Work). m.acting.actor.count < w.limit) i.world.work (subst (λ (a : Actor). a.count < m'.work.limit) i.actor x.1),
-    subst (λ (a : Actor). n < a.count) i.actor x.2,
-    record { before = m'; idles = i; rises = x.3 },
-    x.4,
+    subst (λ (a : Actor). n < a.count) i.actor x.2.less,
+    record { before = m'; idles = i; behind = x.2 },
   )
   turn_after Finished x = (rests_after x.0, subst (λ (w : Rattle.sd_types.specs.declared.works.Work.Work). w.limit ≤ m.acting.actor.count) i.world.work (subst (λ (a : Actor). m'.work.limit ≤ a.count) i.actor x.1))
 

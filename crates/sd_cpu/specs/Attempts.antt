@@ -11,10 +11,9 @@ use Rattle.sd_machine.specs.Events.{next, wish}
 use Rattle.sd_machine.specs.Runs.{serial_hints}
 use Rattle.sd_machine.specs.Hints.{hint_shown}
 use Rattle.sd_dispatcher.specs.declared.reading.Reading.{Reading}
-use Rattle.sd_state.specs.States.{cpu_of}
 use Rattle.sd_hand.specs.Hands.{how_many_held}
 use Rattle.sd_types.specs.Limits.{most_entries}
-use Rattle.sd_world.specs.Worlds.{AllHinted, Begins, slots_of, Made, Meaning, NoneBehind, Rises, actor_of, after_run, now}
+use Rattle.sd_world.specs.Worlds.{AllHinted, Begins, IsBehind, slots_of, Made, Meaning, NoneBehind, Rises, actor_of, after_run, now}
 use Rattle.sd_cpu.specs.declared.attempts.Turned.{Turned}
 use Rattle.sd_cpu.specs.declared.attempts.Turned.TheVariants.{Acted, Ticked, Behind, Finished}
 use Rattle.sd_cpu.specs.declared.attempts.Attempted.{Attempted}
@@ -59,7 +58,7 @@ pub record MayNotTick (m m' : Meaning) : Type 0 where
 abbrev pub AttemptTakesTurn : Meaning → Meaning → Turned → Type 0
 AttemptTakesTurn m m' (Acted n) = MakesOne m m' n false
 AttemptTakesTurn m m' (Ticked n) = MakesOne m m' n true
-AttemptTakesTurn m m' (Behind c n) = MayNotTick m m' × (m.acting.actor.count < m.work.limit) × (n < m.acting.actor.count) × Rises m.reads m'.reads × (m'.last ≡ Some (c.0, n))
+AttemptTakesTurn m m' (Behind c n) = MayNotTick m m' × (m.acting.actor.count < m.work.limit) × IsBehind m m' c.0 n
 AttemptTakesTurn m m' Finished = MayNotTick m m' × (m.work.limit ≤ m.acting.actor.count)
 
 -- somebody was in the way
@@ -117,8 +116,7 @@ pub record MayTick (m : Meaning) : Type 0 where
 -- why the processor may not tick: none, where it may
 abbrev pub Hinders : Meaning → Meaning → Option Turned → Type 0
 Hinders m m' None = MayTick m'
-Hinders m m' (Some (Behind c n)) =
-    (m.acting.actor.count < m.work.limit) × (n < m.acting.actor.count) × Rises m.reads m'.reads × (m'.last ≡ Some (c.0, n)) × (m.alone ≡ true → n ≡ (cpu_of (now m) c.0).count) × (c.0 < m.work.cpus)
+Hinders m m' (Some (Behind c n)) = (m.acting.actor.count < m.work.limit) × IsBehind m m' c.0 n
 Hinders m m' (Some Finished) = m.work.limit ≤ m.acting.actor.count
 Hinders m m' (Some _) = ⊥
 

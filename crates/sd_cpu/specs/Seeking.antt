@@ -37,10 +37,10 @@ HomeHas x (part.Home k) = home_id x ≡ k
 HomeHas x (part.Thread t) = IsListedIn t x
 HomeHas x (part.Actor d) = ⊥
 
--- the part is one that is there, lacking, and there is room for its home
+-- the part is one that is there, lacking, and there is room for its home; so the world has not all
 abbrev pub CanFetch : Meaning → Part → Type 0
-CanFetch m (part.Home k) = CanTake m k
-CanFetch m (part.Thread t) = CanLock m t
+CanFetch m (part.Home k) = CanTake m k × (m.all ≡ false)
+CanFetch m (part.Thread t) = CanLock m t × (m.all ≡ false)
 CanFetch m (part.Actor d) = ⊥
 
 -- the home was taken that has the part, or another processor was in the way

@@ -1,6 +1,6 @@
 //! The homes that a processor takes to find its event, and to make it.
 
-ghost use Rattle.std.specs.Prelude.{◌≡◌, ◌||◌, ℕ, true, IfOk, MatchOption, option_map};
+ghost use Rattle.std.specs.Prelude.{◌≡◌, ◌||◌, ℕ, true, false, IfOk, MatchOption, option_map};
 ghost use Rattle.sd_types.specs.declared.numbers.ChanId.{ChanId as ChanIdOf};
 ghost use Rattle.sd_state.specs.declared.states.State.{State as StateOf};
 ghost use Rattle.sd_machine.specs.Events.{plan_event};
@@ -76,6 +76,7 @@ fn lacking(work: &Work, x: &Acting, event: Event) -> Result<(), Part>
 fn take_home<W: World>(world: &mut W, k: HomeId) -> bool
     requires good { W.good world.old }
     requires can { CanTake (W.meaning world.old) k }
+    requires few { (W.meaning world.old).all ≡ false }
     ensures good { W.good world.new }
     ensures fetches { Fetches (W.meaning world.old) (W.meaning world.new) (Home k) result }
 {
@@ -89,6 +90,7 @@ fn take_home<W: World>(world: &mut W, k: HomeId) -> bool
 fn take_thread<W: World>(world: &mut W, t: ThreadId) -> bool
     requires good { W.good world.old }
     requires can { CanLock (W.meaning world.old) t }
+    requires few { (W.meaning world.old).all ≡ false }
     ensures good { W.good world.new }
     ensures fetches { Fetches (W.meaning world.old) (W.meaning world.new) (Thread t) result }
 {

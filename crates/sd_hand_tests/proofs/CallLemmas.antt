@@ -1,7 +1,7 @@
 -- What the calls of a world that follows a plan do to what it means.
 use Rattle.std.proofs.Common.{◌≡◌, ℕ, true, false, ◌==◌, List, [], ◌∷◌, is_some, map, MatchOption, Option, Some, None, refl, sym, ap, ◌∙◌, subst}
 use Rattle.std.specs.Prelude.{nat_le}
-use Rattle.std.proofs.lemmas.Bool.{eq-eqb}
+use Rattle.std.proofs.lemmas.Bool.{eq-eqb, false≢true}
 use Rattle.std.proofs.lemmas.List.{append-nil}
 use Rattle.sd_types.specs.declared.numbers.CpuId.{CpuId}
 use Rattle.sd_types.specs.declared.numbers.HomeId.{HomeId}
@@ -18,9 +18,12 @@ use Rattle.sd_hand.specs.Hands.{held}
 use Rattle.sd_world.specs.declared.plain.PlainWorld.{PlainWorld}
 use Rattle.sd_world.specs.declared.world.Behind.{Behind}
 use Rattle.sd_world.specs.Plain.{IsLess, NoneLess, plain_meaning}
-use Rattle.sd_world.specs.Worlds.{AllHinted, CanLock, CanTake, Finds, Gains, IsListedIn, IsStopped, ReadsCounts, Reserves, Rises, Stays}
+use Rattle.sd_world.specs.Worlds.{AllHinted, CanLock, CanTake, Finds, Gains, Gets, IsListedIn, IsStopped, Reserves, Rises, Stays}
 use Rattle.sd_world.proofs.WorldLemmas.{begins_same, finds, plain_good, stands_beside}
 use Rattle.sd_hand_tests.specs.declared.hostile_world.HostileWorld.{HostileWorld}
+use Rattle.sd_hand_tests.specs.declared.plan.Trouble.{Trouble}
+use Rattle.sd_hand_tests.specs.declared.plan.What.{What}
+use Rattle.sd_hand_tests.specs.Plan.{trouble_at}
 use Rattle.sd_hand_tests.specs.Hostile.{HasHome, IsHostile, Moves, hint_in, hostile_meaning, whole}
 use Rattle.sd_hand_tests.proofs.HostileLemmas.{counted, fetched_gains, is_hostile, is_stopped, near_of, others_of, state_of, stopped_good, two, work_of}
 use Rattle.sd_hand_tests.proofs.WholeLemmas.{others_held}
@@ -39,6 +42,10 @@ stop_good x y z n e f is = subst IsHostile (sym f) (stopped_good y z.stops (call
 pub stopped : (x y z : HostileWorld) (n : ℕ) → y ≡ record x { calls = n } → z ≡ record y { stops = z.stops } → Rises y.stops z.stops → IsStopped (hostile_meaning x) (hostile_meaning z)
 stopped x y z n e f rises = subst (λ a. IsStopped a (hostile_meaning z)) (same_call x y n e) (subst (λ v. IsStopped (hostile_meaning y) (hostile_meaning v)) (sym f) (is_stopped y z.stops rises))
 
+-- as the plan says of it
+pub planned : (xs : List Trouble) (y z : HostileWorld) → z ≡ record y { stops = z.stops } → (what : Option What) → trouble_at xs y.calls ≡ what → trouble_at xs z.calls ≡ what
+planned xs y z e what is = ap (λ (v : HostileWorld). trouble_at xs v.calls) e ∙ is
+
 -- ---- a home was given out at it
 pub may_take : (x y : HostileWorld) (n : ℕ) (k : HomeId) → y ≡ record x { calls = n } → CanTake (hostile_meaning x) k → CanTake (hostile_meaning y) k
 may_take x y n k e can = subst (λ a. CanTake a k) (sym (same_call x y n e)) can
@@ -46,12 +53,19 @@ may_take x y n k e can = subst (λ a. CanTake a k) (sym (same_call x y n e)) can
 pub gains : (x y z : HostileWorld) (n : ℕ) (h : Home) → y ≡ record x { calls = n } → Moves y z h → Gains (hostile_meaning x) (hostile_meaning z) h
 gains x y z n h e moves = subst (λ a. Gains a (hostile_meaning z) h) (same_call x y n e) (fetched_gains y z h moves)
 
+pub gets : (x y z : HostileWorld) (n : ℕ) (h : Home) → y ≡ record x { calls = n } → Moves y z h → Gets (hostile_meaning x) (hostile_meaning z) h
+gets x y z n h e moves = record { gains = λ few. gains x y z n h e moves; had = λ all. absurd (false≢true all) }
+
+-- nobody else makes entries, so nothing is read of others
+pub unshared : {A : Type 0} (x : HostileWorld) → (hostile_meaning x).alone ≡ false → A
+unshared x shared = absurd (false≢true (sym shared))
+
 -- ---- the home of a thread can be given out, and has it
 pub may_take_home : (x : HostileWorld) (t : ThreadId) (k : HomeId) → IsHostile x → CanLock (hostile_meaning x) t → HasHome x t k → CanTake (hostile_meaning x) k
 may_take_home x t k is can has = record {
-  room = can.room;
   there = is.stands.all.only k (has.home, others_held k has.home (near_of x) (others_of x) (two x is.stands) has.there);
-  fresh = by (held k (near_of x)) refl;
+  room = can.room;
+  fresh = λ few. by (held k (near_of x)) refl;
 }
   where
     by : (o : Option Home) → held k (near_of x) ≡ o → is_some (held k (near_of x)) ≡ false
@@ -82,40 +96,12 @@ hints_are x kind (c ∷ cs) = ap (λ ns. hint_shown (state_of x) kind c ∷ ns) 
 abbrev pub with_inner : HostileWorld → PlainWorld → HostileWorld
 with_inner x i = record x { inner = i }
 
-module _ (x : HostileWorld) (i : PlainWorld) (found : Option Behind) (e : i ≡ record x.inner { reads = i.reads; last = found }) where
-  abbrev y : HostileWorld
-  y = with_inner x i
-
-  abbrev noted : HostileWorld
-  noted = with_inner x (record x.inner { reads = i.reads; last = found })
-
-  same_noted : y ≡ noted
-  same_noted = ap (with_inner x) e
-
-  pub noted_good : IsHostile x → IsHostile y
-  noted_good is =
-      subst IsHostile (sym same_noted)
-      (is_hostile noted (stands_beside (work_of x) (whole x) (whole noted) refl refl refl is.stands) is.actor is.room is.possible)
-
-  notes_stay : Stays (hostile_meaning x) (hostile_meaning noted)
-  notes_stay = record { table = refl; work = refl; alone = refl; all = refl; actor = refl; log = refl; begins = begins_same x.inner.entries.items; still = λ t. refl; hinted = λ c which n h. h; counted = λ c n h. h }
-
-  pub noted_counts : Rises x.inner.reads i.reads → ReadsCounts (hostile_meaning x) (hostile_meaning y)
-  noted_counts rises = record {
-    stays = subst (λ v. Stays (hostile_meaning x) (hostile_meaning v)) (sym same_noted) notes_stay;
-    stops = refl;
-    reads = rises.0;
-    acting = refl;
-  }
-
-  pub noted_finds : IsHostile x → Rises x.inner.reads i.reads → MatchOption found (NoneLess x.inner.actors.items x.near.actor.count) (IsLess x.inner.actors.items x.near.actor.count) → Finds (hostile_meaning x) (hostile_meaning y) found
-  noted_finds is rises less =
-      again found (finds (whole x) (whole y) found (plain_good (whole x) is.stands)
-      (ap (λ (p : PlainWorld). whole (with_inner x p)) (e ∙ ap (λ o. record x.inner { reads = i.reads; last = o }) (sym (ap (λ (p : PlainWorld). p.last) e)))) rises (ap (λ (p : PlainWorld). p.last) e) less)
-    where
-      again : (r : Option Behind) → Finds (plain_meaning (whole x)) (plain_meaning (whole y)) r → Finds (hostile_meaning x) (hostile_meaning y) r
-      again None f = f
-      again (Some b) f = record { less = f.less; rises = f.rises; last = f.last; there = f.there; own = f.own }
+pub finds_behind : (x : HostileWorld) (r : Option Behind) → IsHostile x → MatchOption r (NoneLess x.inner.actors.items x.near.actor.count) (IsLess x.inner.actors.items x.near.actor.count) → Finds (hostile_meaning x) (hostile_meaning x) r
+finds_behind x r is less = again r (finds (whole x) r (plain_good (whole x) is.stands) less)
+  where
+    again : (r : Option Behind) → Finds (plain_meaning (whole x)) (plain_meaning (whole x)) r → Finds (hostile_meaning x) (hostile_meaning x) r
+    again None f = f
+    again (Some b) f = record { less = f.less; there = f.there; other = f.other; reached = f.reached; own = f.own; newest = f.newest }
 
 -- ---- room was made for an entry
 module _ (x z : HostileWorld) (n : ℕ) (counts : z ≡ record x { calls = n }) (es : Logged) (same : es.items ≡ z.inner.entries.items) where
@@ -142,4 +128,4 @@ module _ (x z : HostileWorld) (n : ℕ) (counts : z ≡ record x { calls = n }) 
   }
 
   pub roomy_reserves : Reserves (hostile_meaning x) (hostile_meaning roomy)
-  roomy_reserves = subst (λ a. Reserves a (hostile_meaning roomy)) (same_call x z n counts) (record { stays = roomy_stays; quiet = record { stops = refl; reads = refl; last = refl }; acting = refl })
+  roomy_reserves = subst (λ a. Reserves a (hostile_meaning roomy)) (same_call x z n counts) (record { stays = roomy_stays; quiet = record { stops = refl; notes = refl; misses = refl }; acting = refl })

@@ -156,7 +156,7 @@ fetched_good x y h is moves apart =
 pub fetched_gains : (x y : HostileWorld) (h : Home) → Moves x y h → Gains (hostile_meaning x) (hostile_meaning y) h
 fetched_gains x y h moves = record {
   stays = subst (λ z. Stays (hostile_meaning x) (hostile_meaning z)) (sym moves.rest) (hands_stay x y.near.hand y.inner.acting.hand);
-  quiet = subst (λ z. IsQuiet (hostile_meaning x) (hostile_meaning z)) (sym moves.rest) (record { stops = refl; reads = refl; last = refl });
+  quiet = subst (λ z. IsQuiet (hostile_meaning x) (hostile_meaning z)) (sym moves.rest) (record { stops = refl; notes = refl; misses = refl });
   more = moves.near;
   count = moves.more;
 }
@@ -182,7 +182,7 @@ given_good x y h is moves apart =
 pub given_stays : (x y : HostileWorld) (h : Home) → Moves y x h → Stays (hostile_meaning x) (hostile_meaning y) × IsQuiet (hostile_meaning x) (hostile_meaning y)
 given_stays x y h moves = (
   subst (λ z. Stays (hostile_meaning x) (hostile_meaning z)) (sym (back x y h moves)) (hands_stay x y.near.hand y.inner.acting.hand),
-  subst (λ z. IsQuiet (hostile_meaning x) (hostile_meaning z)) (sym (back x y h moves)) (record { stops = refl; reads = refl; last = refl }),
+  subst (λ z. IsQuiet (hostile_meaning x) (hostile_meaning z)) (sym (back x y h moves)) (record { stops = refl; notes = refl; misses = refl }),
 )
 
 -- ---- what is held is elsewhere than the others
@@ -311,12 +311,12 @@ not_held_near x k fresh = by (held k (near_of x)) refl fresh
 pub not_gone : (x : HostileWorld) (k : HomeId) → IsHostile x → CanTake (hostile_meaning x) k → held k (others_of x) ≡ None → ⊥
 not_gone x k is can none =
     let (h, e) = is.stands.all.all k can.there in
-    let no : None ≡ Some h = sym (right_held k (near_of x) (others_of x) (not_held_near x k can.fresh) ∙ none) ∙ e in
+    let no : None ≡ Some h = sym (right_held k (near_of x) (others_of x) (not_held_near x k (can.fresh refl)) ∙ none) ∙ e in
     absurd cc
 
 pub not_refused : (x : HostileWorld) (k : HomeId) (h : Home) → CanTake (hostile_meaning x) k → home_id h ≡ k → IsHeld (home_id h) (near_of x) ⊎ HasNoRoom (near_of x) → ⊥
-not_refused x k h can same (inl (g, e)) = false≢true (sym can.fresh ∙ ap is_some (ap (λ j. held j (near_of x)) (sym same) ∙ e))
-not_refused x k h can same (inr full) = let less = can.room in let four = full.four in let all = full.all in absurd (omega (arith, less, four, all))
+not_refused x k h can same (inl (g, e)) = false≢true (sym (can.fresh refl) ∙ ap is_some (ap (λ j. held j (near_of x)) (sym same) ∙ e))
+not_refused x k h can same (inr full) = let less = can.room refl in let four = full.four in let all = full.all in absurd (omega (arith, less, four, all))
 
 pub not_lost : (x : HostileWorld) (k : HomeId) → IsHeld k (near_of x) → held k (near_of x) ≡ None → ⊥
 not_lost x k (h, e) none = let no : Some h ≡ None = sym e ∙ none in absurd cc
@@ -328,7 +328,7 @@ has_room x k h n is near same count (inr full) = let room = is.room in let all =
 pub not_nowhere : (x : HostileWorld) (t : ThreadId) → IsHostile x → CanLock (hostile_meaning x) t → has_thread t.0 (others_of x) ≡ false → ⊥
 not_nowhere x t is can none =
     let there = has_there (work_of x) (whole x) is.stands (part.Thread t) can.there in
-    false≢true (sym (has_both t.0 (near_of x) (others_of x) ∙ (ap (λ b. b || has_thread t.0 (others_of x)) can.fresh ∙ none)) ∙ there)
+    false≢true (sym (has_both t.0 (near_of x) (others_of x) ∙ (ap (λ b. b || has_thread t.0 (others_of x)) (can.fresh refl) ∙ none)) ∙ there)
 
 pub stands_home : (x : HostileWorld) (t : ThreadId) (at : ListId) (k : HomeId) → IsHostile x → k ≡ home_at at → StandsIn t.0 (others_of x) at → HasHome x t k
 stands_home x t at k is same stands =

@@ -2,7 +2,9 @@
 
 ghost use Rattle.std.specs.Prelude.{◌≡◌, ◌≤◌, length, map};
 ghost use Rattle.sd_world.specs.Plain.{AreCpus};
-ghost use Rattle.sd_hand_tests.specs.Hostile.{IsHostile, hint_in};
+ghost use Rattle.sd_world.specs.Worlds.{CanLock, CanTake, Locks, Takes};
+ghost use Rattle.sd_hand_tests.specs.Hostile.{IsHostile, hint_in, hostile_meaning};
+ghost use Rattle.sd_hand_tests.specs.Plan.{LocksByPlan, TakesByPlan};
 ghost use Rattle.sd_types.specs.Limits.{most_processors};
 
 use crate::hostile_world::HostileWorld;
@@ -44,7 +46,13 @@ impl<'a> World for HostileWorld<'a> {
         false
     }
 
-    fn take(&mut self, k: HomeId) -> Take {
+    fn take(&mut self, k: HomeId) -> Take
+        requires good { IsHostile self.old }
+        requires can { CanTake (hostile_meaning self.old) k }
+        ensures good { IsHostile self.new }
+        ensures takes { Takes (hostile_meaning self.old) (hostile_meaning self.new) k result }
+        ensures planned { TakesByPlan self.old.plan.items self.new.calls result }
+    {
         match self.next_trouble() {
             Some(What::Busy { holder }) => {
                 self.stop();
@@ -57,7 +65,13 @@ impl<'a> World for HostileWorld<'a> {
         }
     }
 
-    fn lock_thread(&mut self, t: ThreadId) -> ThreadLock {
+    fn lock_thread(&mut self, t: ThreadId) -> ThreadLock
+        requires good { IsHostile self.old }
+        requires can { CanLock (hostile_meaning self.old) t }
+        ensures good { IsHostile self.new }
+        ensures locks { Locks (hostile_meaning self.old) (hostile_meaning self.new) t result }
+        ensures planned { LocksByPlan self.old.plan.items self.new.calls result }
+    {
         let home = self.home_with(t);
         match self.next_trouble() {
             Some(What::Busy { holder }) => {

@@ -15,7 +15,7 @@ use Rattle.sd_types.specs.declared.events.Entry.{Entry}
 use Rattle.sd_types.specs.declared.works.Work.{Work}
 use Rattle.sd_state.specs.States.{cpu_of}
 use Rattle.sd_homes.specs.declared.home.Home.{Home}
-use Rattle.sd_shared_rule.specs.declared.views.Count.{Count}
+use Rattle.sd_world.specs.declared.notes.Count.{Count}
 use Rattle.sd_shared_rule.specs.declared.views.Note.{Note}
 use Rattle.sd_shared_rule.specs.declared.views.Desk.{Desk}
 use Rattle.sd_shared_rule.specs.declared.views.Written.{Written}
@@ -84,8 +84,8 @@ module _ (w : Work) where
     counts = x.counts;
   }
 
-  missed : (l : Ledger) (lock : ℕ → ℕ) (id n : ℕ) (d : Desk) → Desked w l lock id d → Desked w l lock id (missing d n)
-  missed l lock id n d x = record {
+  missed : (l : Ledger) (lock : ℕ → ℕ) (id k n : ℕ) (d : Desk) → Desked w l lock id d → Desked w l lock id (missing d k n)
+  missed l lock id k n d x = record {
     made = x.made;
     seat = x.seat;
     here = x.here;
@@ -123,8 +123,8 @@ module _ (w : Work) where
     counts = is.counts;
   }
 
-  look_noted : (l : Ledger) (lock : ℕ → ℕ) (id n : ℕ) (d : Desk) → Desked w l lock id d → Desked w l lock id (looking d n)
-  look_noted l lock id n d x = record {
+  look_noted : (l : Ledger) (lock : ℕ → ℕ) (id t n : ℕ) (d : Desk) → Desked w l lock id d → Desked w l lock id (looking d t n)
+  look_noted l lock id t n d x = record {
     made = x.made;
     seat = x.seat;
     here = x.here;
@@ -369,10 +369,10 @@ module _ (w : Work) where
       miss s kept at n =
           let h = kept.ledger.history in
           let same : either (eqb (slice_index s.words k) 0) c1 (slice_index s.words k) ≡ slice_index s.words k = ap (λ b. either b c1 (slice_index s.words k)) (let z : eqb (slice_index s.words k) 0 ≡ false = grind (arith, nat_tests) in z) in (
-            Works (missing (seeing d h) (slice_index s.words k)),
+            Works (missing (seeing d h) k (slice_index s.words k)),
             keeps,
             tt,
-            notes_at s kept id k _ (missing (seeing d h) (slice_index s.words k)) same (missed kept.ledger (lock_of w s.words) id (slice_index s.words k) (seeing d h) (seen_all kept.ledger (lock_of w s.words) id d (desk_at s kept id d at))),
+            notes_at s kept id k _ (missing (seeing d h) k (slice_index s.words k)) same (missed kept.ledger (lock_of w s.words) id k (slice_index s.words k) (seeing d h) (seen_all kept.ledger (lock_of w s.words) id d (desk_at s kept id d at))),
             (h, sees s kept id d at, (λ e. absurd (n e)), (λ _. (holder s kept, refl))),
           )
 
@@ -391,10 +391,10 @@ module _ (w : Work) where
       let mine = desk_at s kept id d at in
       let word = word_is w s.words t i in
       let inside : slice_index s.words (thread_word w t) < home_count w = subst (λ n. n < home_count w) word (kept.named.inside t i) in (
-        Works (looking (seeing d h) (slice_index s.words (thread_word w t))),
+        Works (looking (seeing d h) t (slice_index s.words (thread_word w t))),
         keeps,
         tt,
-        notes_at s kept id (thread_word w t) _ (looking (seeing d h) (slice_index s.words (thread_word w t))) refl (look_noted kept.ledger (lock_of w s.words) id (slice_index s.words (thread_word w t)) (seeing d h) (seen_all kept.ledger (lock_of w s.words) id d mine)),
+        notes_at s kept id (thread_word w t) _ (looking (seeing d h) t (slice_index s.words (thread_word w t))) refl (look_noted kept.ledger (lock_of w s.words) id t (slice_index s.words (thread_word w t)) (seeing d h) (seen_all kept.ledger (lock_of w s.words) id d mine)),
         (
           h,
           sees s kept id d at,

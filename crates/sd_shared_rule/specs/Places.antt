@@ -18,15 +18,14 @@ use Rattle.sd_homes.specs.Standing.{home_of, look_of}
 use Rattle.sd_homes.specs.declared.home.Home.{Home}
 use Rattle.sd_hand.specs.Shown.{IsHome}
 use Rattle.sd_footprint.specs.Homes.{home_in}
-use Rattle.sd_world.specs.Homes.{IsPlaced, Sizes, how_many, index_of}
+use Rattle.sd_world.specs.Homes.{IsPlaced, Sizes, how_many, index_of, sizes_in}
 
 -- the state after these entries
 abbrev pub now : Work → List Entry → State
 now w h = final w (opening w) h
 
--- one real-time queue for the default partition and one for each declared set
 abbrev pub sizes : Work → Sizes
-sizes w = record { cpus = w.cpus; sets = length w.sets + 1 }
+sizes w = sizes_in w
 
 abbrev pub home_count : Work → ℕ
 home_count w = how_many (sizes w)

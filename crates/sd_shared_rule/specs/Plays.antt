@@ -16,7 +16,7 @@ use Rattle.sd_machine.specs.Runs.{IsRun}
 use Rattle.sd_machine.specs.Events.{next}
 use Rattle.sd_machine.specs.Hints.{reads}
 use Rattle.sd_homes.specs.declared.home.Home.{Home}
-use Rattle.sd_shared_rule.specs.declared.views.Count.{Count}
+use Rattle.sd_world.specs.declared.notes.Count.{Count}
 use Rattle.sd_shared_rule.specs.declared.views.Note.{Note}
 use Rattle.sd_shared_rule.specs.declared.views.Written.{Written}
 use Rattle.sd_shared_rule.specs.declared.views.Desk.{Desk}
@@ -32,7 +32,7 @@ Slot = Option Home
 -- Views.
 
 abbrev pub new_desk : ℕ → Desk
-new_desk c = record { cpu = c; held = []; seen = []; stray = []; counts = []; hints = []; looked = []; fails = 0; last = 0; written = [] }
+new_desk c = record { cpu = c; held = []; seen = []; stray = []; counts = []; hints = []; glances = []; misses = []; written = [] }
 
 abbrev pub desk_of : View → Desk
 desk_of (Works d) = d
@@ -45,8 +45,9 @@ seeing d h = record d { seen = h }
 abbrev pub taking : Desk → ℕ → Desk
 taking d k = record d { held = k ∷ d.held }
 
-abbrev pub missing : Desk → ℕ → Desk
-missing d n = record d { fails = d.fails + 1; last = n }
+-- this word was found in the lock of home k
+abbrev pub missing : Desk → ℕ → ℕ → Desk
+missing d k n = record d { misses = record { home = k; word = n } ∷ d.misses }
 
 abbrev pub giving : Desk → ℕ → Desk
 giving d k = record d { held = without k d.held }
@@ -57,8 +58,9 @@ noting d x = record d { counts = x ∷ d.counts }
 abbrev pub hinted : Desk → Note → Desk
 hinted d x = record d { hints = x ∷ d.hints }
 
-abbrev pub looking : Desk → ℕ → Desk
-looking d n = record d { looked = n ∷ d.looked }
+-- the word of thread t named home n
+abbrev pub looking : Desk → ℕ → ℕ → Desk
+looking d t n = record d { glances = record { thread = t; home = n } ∷ d.glances }
 
 abbrev pub writing : Desk → Written → Desk
 writing d x = record d { written = x ∷ d.written }
@@ -110,12 +112,12 @@ is_written xs i n = list_any (λ x. (x.word == i) && (x.number == n)) xs
 -- What each kind of step tells: of the word that was found, and of the seat after it.
 
 -- the lock of a home was exchanged for the seat's own, where it was 0: then the home was taken, which stands for its part; else the word
--- has the number of a processor plus 1
+-- has the number of a processor plus 1, and the seat notes it of this home
 abbrev pub Took : Work → Step Slot → Me Slot View → ℕ → Me Slot View → Type 0
 Took w st m n m' =
     (h : List Entry) × Sees w (desk_of m.0) h
     × (n ≡ 0 → (x : Home) × Stands w st.word h x × (m' ≡ (Works (taking (seeing (desk_of m.0) h) st.word), (st.word, Some x) ∷ m.1)))
-    × (n ≢ 0 → (n ≤ w.cpus) × (m' ≡ (Works (missing (seeing (desk_of m.0) h) n), m.1)))
+    × (n ≢ 0 → (n ≤ w.cpus) × (m' ≡ (Works (missing (seeing (desk_of m.0) h) st.word n), m.1)))
 
 -- the home that was taken last was given back
 abbrev pub Gave : Work → Step Slot → Me Slot View → ℕ → Me Slot View → Type 0
@@ -124,7 +126,7 @@ Gave w st m n m' = m' ≡ (Works (giving (desk_of m.0) st.word), rest m.1)
 -- the word of thread t was read: where it names a home that is held, and no word is unpublished, the thread stands there
 abbrev pub Looked : Work → ℕ → Step Slot → Me Slot View → ℕ → Me Slot View → Type 0
 Looked w t st m n m' =
-    (h : List Entry) × Sees w (desk_of m.0) h × (m' ≡ (Works (looking (seeing (desk_of m.0) h) n), m.1)) × (n < home_count w)
+    (h : List Entry) × Sees w (desk_of m.0) h × (m' ≡ (Works (looking (seeing (desk_of m.0) h) t n), m.1)) × (n < home_count w)
     × ((desk_of m.0).stray ≡ [] → holds n (desk_of m.0).held ≡ true → place_home w (now w h) t ≡ n)
 
 -- the word of thread t was published

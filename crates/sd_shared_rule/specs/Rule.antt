@@ -9,7 +9,7 @@ use Rattle.sd_types.specs.declared.works.Work.{Work}
 use Rattle.sd_state.specs.States.{cpu_of}
 use Rattle.sd_machine.specs.Runs.{IsRun}
 use Rattle.sd_homes.specs.declared.home.Home.{Home}
-use Rattle.sd_shared_rule.specs.declared.views.Count.{Count}
+use Rattle.sd_world.specs.declared.notes.Count.{Count}
 use Rattle.sd_shared_rule.specs.declared.views.Desk.{Desk}
 use Rattle.sd_shared_rule.specs.declared.views.View.{View}
 use Rattle.sd_shared_rule.specs.declared.views.View.TheVariants.{Maker, Works, Gathers, Spent}

@@ -4,4 +4,4 @@
 
 mod views;
 
-pub use views::{Count, Desk, Note, View, Written};
+pub use views::{Desk, Note, View, Written};

@@ -1,12 +1,7 @@
 //! What a seat of the table knows: its view, which exists in proofs alone. No value of these types is made.
 
 use sd_types::{Entry, List, Which};
-
-/// The count of ticks of a processor, as its word had it when it was read.
-pub struct Count {
-    pub cpu: u64,
-    pub number: u64,
-}
+use sd_world::{Count, Glance, Miss};
 
 /// A number that a processor showed as a hint when its word was read.
 pub struct Note {
@@ -23,9 +18,8 @@ pub struct Written {
 
 /// What the seat of a processor knows: the indices of the homes that it holds, the one that it took last first; the entries of all
 /// processors so far, as it has seen them; the threads that its entries moved between its homes, and whose words it has not published since; the counts
-/// and the hints that it read, the last first; the homes that the words of threads named when it read them, the last first; how often
-/// it failed to take a home, with the word that it found there last; and the numbers of hints and ticks that it wrote since its last entry,
-/// the last first.
+/// and the hints that it read, the words of threads that it read with the homes that they named, and the locks that it found taken, each the last first;
+/// and the numbers of hints and ticks that it wrote since its last entry, the last first.
 pub struct Desk {
     pub cpu: u64,
     pub held: List<u64>,
@@ -33,9 +27,8 @@ pub struct Desk {
     pub stray: List<u64>,
     pub counts: List<Count>,
     pub hints: List<Note>,
-    pub looked: List<u64>,
-    pub fails: u64,
-    pub last: u64,
+    pub glances: List<Glance>,
+    pub misses: List<Miss>,
     pub written: List<Written>,
 }
 

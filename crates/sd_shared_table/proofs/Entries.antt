@@ -45,7 +45,7 @@ use Rattle.sd_shared_rule.specs.declared.views.View.TheVariants.{Works}
 use Rattle.sd_shared_rule.specs.Ledgers.{by}
 use Rattle.sd_shared_rule.specs.Movers.{IsMover, mover}
 use Rattle.sd_shared_rule.specs.Places.{Touches, holds, moved, now, place_home, sizes}
-use Rattle.sd_shared_rule.specs.Plays.{AllNoted, HintsNoted, MayCommit, Sees, committing, desk_of, entry_as}
+use Rattle.sd_shared_rule.specs.Plays.{AllNoted, HintsNoted, MayCommit, Sees, committing, desk_of, entry_as, is_noted}
 use Rattle.sd_shared_rule.proofs.Bridge.{moves, now_push, place_number, reached}
 use Rattle.sd_shared_rule.proofs.Lists.{by_mine}
 use Rattle.sd_shared_rule.proofs.Movers.{moves_mover}
@@ -65,6 +65,10 @@ all_noted w s which [] [] h = tt
 all_noted w s which [] (n ∷ ns) h = absurd h
 all_noted w s which (c ∷ cs) [] h = absurd h
 all_noted w s which (c ∷ cs) (n ∷ ns) h = (h.0, all_noted w s which cs ns h.1)
+
+none_noted : (c : ℕ) (which : Which) (n : ℕ) → is_noted [] c which n ≡ false
+unfolding is_noted
+none_noted c which n = refl
 
 -- Threads that moved.
 
@@ -257,10 +261,16 @@ module _ (w : Work) (t : TableId) (s : Seat) (f : Fits t w s) where
         after = ([], ap (λ (d : Desk). d.seen) told.desk ∙ (ap (λ m. (desk_of m.0).seen) view ∙ (ap (λ y. h ++ y ∷ []) same_entry ∙ sym (append-nil (h ++ record { number = n; cpu = s.acting.actor.cpu; event = e; hints = hints } ∷ [])))));
         after_still = λ q. absurd (false≢true q);
       };
-      quiet = record { stops = refl; reads = refl; last = refl };
+      quiet = record {
+        stops = refl;
+        notes = ap (λ (d : Desk). d.counts) told.desk ∙ ap (λ m. (desk_of m.0).counts) view;
+        misses = ap (λ (d : Desk). d.misses) told.desk ∙ ap (λ m. (desk_of m.0).misses) view;
+      };
       table = ap Some (table2 ∙ sym f.table);
       work = refl;
       alone = refl;
       all = refl;
       cpu = ap (λ (a : Acting). a.actor.cpu) told.acting ∙ cpu;
+      held = ap has_part told.acting ∙ has;
+      unhinted = λ shared c which k. ap (λ (d : Desk). is_noted d.hints c which k) told.desk ∙ (ap (λ m. is_noted (desk_of m.0).hints c which k) view ∙ none_noted c which k);
     }

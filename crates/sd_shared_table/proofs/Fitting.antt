@@ -24,9 +24,10 @@ use Rattle.sd_hand.specs.Shown.{IsHome}
 use Rattle.sd_homes.specs.Standing.{look_of}
 use Rattle.sd_hand.proofs.SlotLemmas.{held_id, same_home_self, same_home_true}
 use Rattle.sd_world.specs.Homes.{IsNumber, index_of}
-use Rattle.sd_world.specs.Worlds.{Begins, IsGood, MayStand}
+use Rattle.sd_world.specs.Worlds.{Begins, Gains, IsGood, MayStand}
 use Rattle.sd_world.proofs.NumberLemmas.{same_number}
-use Rattle.sd_shared_rule.specs.declared.views.Count.{Count}
+use Rattle.sd_world.specs.declared.notes.Count.{Count}
+use Rattle.sd_world.specs.declared.notes.Miss.{Miss}
 use Rattle.sd_shared_rule.specs.declared.views.Desk.{Desk}
 use Rattle.sd_shared_rule.specs.declared.views.Note.{Note}
 use Rattle.sd_shared_rule.specs.declared.views.View.TheVariants.{Works}
@@ -39,7 +40,7 @@ use Rattle.sd_shared_rule.proofs.Lists.{holds-cons_else, holds_here}
 use Rattle.sd_shared_rule.proofs.Since.{reached_still, since_same}
 use Rattle.sd_shared_table.specs.declared.seat.Held.{Held}
 use Rattle.sd_shared_table.specs.declared.seat.Seat.{Seat}
-use Rattle.sd_shared_table.specs.Seats.{AreNumbers, Fits, FitsAs, HasLast, Lifted, Lowered, Missed, SeatCounts, SeatHints, SeatStays, desk, indices, is_counted, lent, seat_meaning, table_meaning}
+use Rattle.sd_shared_table.specs.Seats.{AreNumbers, Fits, FitsAs, HasLast, Lifted, Lowered, Missed, SeatCounts, SeatHints, SeatQuiet, SeatStays, desk, indices, is_counted, lent, seat_meaning, table_meaning}
 use Rattle.sd_world.proofs.WorldLemmas.{begins_same}
 
 abbrev first_slot : List (ℕ × Slot) → Slot
@@ -85,8 +86,8 @@ module _ (w : Work) where
   may_stand t s h f seen = record { run = seen.run; begins = seen.since.begins; still = λ e. absurd (false≢true e); shown = shown_since t [] (desk s) s h f seen }
 
   -- the seat as a world is good
-  pub table_good : (t : TableId) (s : Seat) (stops reads : ℕ) (last : Option (ℕ × ℕ)) → Fits t w s → IsGood (table_meaning w s stops reads last)
-  table_good t s stops reads last f = record {
+  pub table_good : (t : TableId) (s : Seat) (stops : ℕ) → Fits t w s → IsGood (table_meaning w s stops)
+  table_good t s stops f = record {
     stands = record { run = f.run; begins = begins_same (desk s).seen; still = λ e. absurd (false≢true e); shown = f.shown };
     cpu = subst (λ c. c < w.cpus) f.cpu f.inside;
     everything = λ e. absurd (false≢true e);
@@ -133,22 +134,28 @@ module _ (w : Work) where
       (subst (λ d. (c : ℕ) (which : Which) (n : ℕ) → is_noted (desk s).hints c which n ≡ true → is_noted d.hints c which n ≡ true) (sym is) hinted)
       (subst (λ d. (c n : ℕ) → is_counted (desk s).counts c n ≡ true → is_counted d.counts c n ≡ true) (sym is) counted)
 
-  -- a lock was found taken
-  pub fits_missed : (t : TableId) (s s' : Seat) (h : List Entry) (n : ℕ) → Fits t w s → Sees w (desk s) h → s'.place.table_id ≡ t → s'.place.me ≡ (Works (missing (seeing (desk s) h) n), s.place.me.1)
-      → s'.acting ≡ s.acting → s'.order.items ≡ s.order.items → s'.log.items ≡ s.log.items → Fits t w s'
-  fits_missed t s s' h n f seen table view acting order log =
-      refits t [] [] (desk s) (missing (seeing (desk s) h) n) s s' f seen refl refl f.settled (counted_still t [] (desk s) s h f seen) table
-      (view ∙ ap (λ l. (Works (missing (seeing (desk s) h) n), l)) (ap (λ m. m.1) f.view)) acting order log
+  -- no count was read and no lock found taken, where the desk is known
+  pub quiet_by : (s s' : Seat) (d' : Desk) → desk s' ≡ d' → d'.counts ≡ (desk s).counts → d'.misses ≡ (desk s).misses → SeatQuiet w s s'
+  quiet_by s s' d' is counts misses = record { stops = refl; notes = ap (λ (d : Desk). d.counts) is ∙ counts; misses = ap (λ (d : Desk). d.misses) is ∙ misses }
 
-  pub missed : (t : TableId) (s s' : Seat) (h : List Entry) (n : ℕ) (holder : ℕ) → Fits t w s → Sees w (desk s) h → s'.place.table_id ≡ t → s'.place.me ≡ (Works (missing (seeing (desk s) h) n), s.place.me.1)
-      → s'.acting ≡ s.acting → s'.log.items ≡ s.log.items → n ≡ holder + 1 → Missed w s s' holder
-  missed t s s' h n holder f seen table view acting log is =
-      let desk_is : desk s' ≡ missing (seeing (desk s) h) n = ap (λ m. desk_of m.0) view in
+  -- a lock was found taken
+  pub fits_missed : (t : TableId) (s s' : Seat) (h : List Entry) (i n : ℕ) → Fits t w s → Sees w (desk s) h → s'.place.table_id ≡ t → s'.place.me ≡ (Works (missing (seeing (desk s) h) i n), s.place.me.1)
+      → s'.acting ≡ s.acting → s'.order.items ≡ s.order.items → s'.log.items ≡ s.log.items → Fits t w s'
+  fits_missed t s s' h i n f seen table view acting order log =
+      refits t [] [] (desk s) (missing (seeing (desk s) h) i n) s s' f seen refl refl f.settled (counted_still t [] (desk s) s h f seen) table
+      (view ∙ ap (λ l. (Works (missing (seeing (desk s) h) i n), l)) (ap (λ m. m.1) f.view)) acting order log
+
+  abbrev miss_at : ℕ → ℕ → Miss
+  miss_at i n = record { home = i; word = n }
+
+  pub missed : (t : TableId) (s s' : Seat) (h : List Entry) (i n : ℕ) (k : HomeId) (holder : ℕ) → i ≡ index_of (sizes w) k → Fits t w s → Sees w (desk s) h → s'.place.table_id ≡ t
+      → s'.place.me ≡ (Works (missing (seeing (desk s) h) i n), s.place.me.1) → s'.acting ≡ s.acting → s'.log.items ≡ s.log.items → n ≡ holder + 1 → Missed w s s' k holder
+  missed t s s' h i n k holder at f seen table view acting log is =
+      let desk_is : desk s' ≡ missing (seeing (desk s) h) i n = ap (λ m. desk_of m.0) view in
       record {
-        stays = stays_by t s s' (missing (seeing (desk s) h) n) f table desk_is (ap (λ (a : Acting). a.actor) acting) log seen.since.begins (λ c which m e. e) (λ c m e. e);
+        stays = stays_by t s s' (missing (seeing (desk s) h) i n) f table desk_is (ap (λ (a : Acting). a.actor) acting) log seen.since.begins (λ c which m e. e) (λ c m e. e);
         acting = acting;
-        fails = ap (λ (d : Desk). d.fails) desk_is;
-        last = ap (λ (d : Desk). d.last) desk_is ∙ is;
+        misses = ap (λ (d : Desk). d.misses) desk_is ∙ (ap (λ j. miss_at j n ∷ (desk s).misses) at ∙ ap (λ m. miss_at (index_of (sizes w) k) m ∷ (desk s).misses) is);
       }
 
   -- a home was taken and came to the hand
@@ -230,6 +237,21 @@ module _ (w : Work) where
       → s0.place.me ≡ (Works (taking (seeing (desk s) h) i), (i, Some x) ∷ s.place.me.1) → s0.place.table_id ≡ t → s0.acting ≡ s.acting → s0.order.items ≡ s.order.items → s0.log.items ≡ s.log.items → Lifted k i s0 s' → Fits t w s'
   fits_taken_at t s s' s0 h k x i e f seen stands number view table acting order log up =
       fits_taken t s s' s0 h k x f seen (subst (λ j. Stands w j h x) e stands) number (view ∙ ap (λ j. (Works (taking (seeing (desk s) h) j), (j, Some x) ∷ s.place.me.1)) e) table acting order log (subst (λ j. Lifted k j s0 s') e up)
+
+  pub gains_taken : (t : TableId) (s s' s0 : Seat) (h : List Entry) (k : HomeId) (x : Home) (i : ℕ) → Fits t w s → Sees w (desk s) h → s0.place.me ≡ (Works (taking (seeing (desk s) h) i), (i, Some x) ∷ s.place.me.1) → s0.place.table_id ≡ t
+      → s0.acting ≡ s.acting → s0.log.items ≡ s.log.items → Lifted k i s0 s' → (y : Home) × (home_id y ≡ k) × Gains (seat_meaning w s) (seat_meaning w s') y
+  gains_taken t s s' s0 h k x i f seen view table acting log up =
+      let d' = taking (seeing (desk s) h) i in
+      let is : desk s' ≡ d' = ap (λ m. desk_of m.0) up.view ∙ ap (λ m. desk_of m.0) view in (
+        up.home,
+        up.number,
+        record {
+          stays = stays_by t s s' d' f (up.table ∙ table) is (up.actor ∙ ap (λ (a : Acting). a.actor) acting) (up.log ∙ log) seen.since.begins (λ c which m e. e) (λ c m e. e);
+          quiet = quiet_by s s' d' is refl refl;
+          more = subst (λ (a : Acting). HoldsMore a.hand.slots up.home s'.acting.hand.slots) acting up.more;
+          count = subst (λ (a : Acting). how_many_held s'.acting.hand.slots ≡ how_many_held a.hand.slots + 1) acting up.count;
+        },
+      )
 
   -- the home that was taken last
   last_of : (t : TableId) (s : Seat) (k : HomeId) (front : List Held) → Fits t w s → s.order.items ≡ front ++ record { 0 = k } ∷ [] → IsNumber (sizes w) k × ((desk s).held ≡ index_of (sizes w) k ∷ indices w (reverse front))
@@ -336,6 +358,9 @@ module _ (w : Work) where
         stays_by t s s' (giving (desk s) (index_of (sizes w) (home_id x))) f table (ap (λ m. desk_of m.0) view) (ap (λ (a : Acting). a.actor) acting ∙ low.actor) (ap (λ l. l.items) (log ∙ low.log)) (begins_same (desk s).seen)
         (λ c which n e. e) (λ c n e. e)
 
+    pub quiet_given : (s' : Seat) → s'.place.me ≡ (Works (giving (desk s) (index_of (sizes w) (home_id x))), lent (indices w (reverse s1.order.items))) → SeatQuiet w s s'
+    quiet_given s' view = quiet_by s s' (giving (desk s) (index_of (sizes w) (home_id x))) (ap (λ m. desk_of m.0) view) refl refl
+
   -- a count was read
   counted_cons : (x : Count) (xs : List Count) (c n : ℕ) → is_counted (x ∷ xs) c n ≡ (((x.cpu == c) && (x.number == n)) || is_counted xs c n)
   unfolding is_counted
@@ -378,6 +403,7 @@ module _ (w : Work) where
           stays = stays_by t s s' d' f table is (ap (λ (a : Acting). a.actor) acting) log seen.since.begins (λ k which m e. e) (λ k m e. counted_there (record { cpu = c; number = n }) (desk s).counts k m e);
           acting = acting;
           noted = ap (λ (d : Desk). d.counts) is;
+          misses = ap (λ (d : Desk). d.misses) is;
           counted = ap (λ (d : Desk). is_counted d.counts c n) is ∙ counted_here c n (desk s).counts;
         }
 
@@ -410,6 +436,7 @@ module _ (w : Work) where
         let is : desk s' ≡ d' = ap (λ m. desk_of m.0) view in
         record {
           stays = stays_by t s s' d' f table is (ap (λ (a : Acting). a.actor) acting) log (begins_same (desk s).seen) (λ k what m e. noted_there (record { cpu = c; which = which; number = n }) (desk s).hints k what m e) (λ k m e. e);
+          quiet = quiet_by s s' d' is refl refl;
           acting = acting;
           noted = ap (λ (d : Desk). d.hints) is;
           hinted = ap (λ (d : Desk). is_noted d.hints c which n) is ∙ noted_here c which n (desk s).hints;

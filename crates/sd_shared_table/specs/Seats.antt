@@ -26,10 +26,10 @@ use Rattle.sd_hand.specs.declared.acting.Acting.{Acting}
 use Rattle.sd_hand.specs.Acting.{IsShown, has_part}
 use Rattle.sd_hand.specs.Hands.{AreApart, HoldsMore, IsHeld, has_thread, held as held_in, how_many_held}
 use Rattle.sd_world.specs.Homes.{IsNumber, index_of}
-use Rattle.sd_world.specs.Worlds.{Gains, Meaning, Stays}
+use Rattle.sd_world.specs.Worlds.{Gains, IsQuiet, Meaning, Stays, miss}
 use Rattle.sd_world.specs.declared.world.Take.{Take}
 use Rattle.sd_world.specs.declared.world.Take.TheVariants.{Taken, Busy}
-use Rattle.sd_shared_rule.specs.declared.views.Count.{Count}
+use Rattle.sd_world.specs.declared.notes.Count.{Count}
 use Rattle.sd_shared_rule.specs.declared.views.Desk.{Desk}
 use Rattle.sd_shared_rule.specs.declared.views.View.TheVariants.{Works}
 use Rattle.sd_shared_rule.specs.declared.views.Written.{Written}
@@ -91,9 +91,9 @@ pub record FitsAs (t : TableId) (w : Work) (ts : List ℕ) (d : Desk) (s : Seat)
 abbrev pub Fits : TableId → Work → Seat → Type 0
 Fits t w s = FitsAs t w [] (desk s) s
 
--- as a world that others share: what was seen is the run as the seat knows it
-abbrev pub table_meaning : Work → Seat → ℕ → ℕ → Option (ℕ × ℕ) → Meaning
-table_meaning w s stops reads last = record {
+-- as a world that others share: what was seen is the run as the seat knows it, and what was read of others is what the seat noted at its steps
+abbrev pub table_meaning : Work → Seat → ℕ → Meaning
+table_meaning w s stops = record {
   table = Some s.place.table_id;
   work = w;
   alone = false;
@@ -103,29 +103,32 @@ table_meaning w s stops reads last = record {
   seen = (desk s).seen;
   spare = vec_capacity s.log - vec_len s.log;
   stops = stops;
-  reads = reads;
-  last = last;
+  notes = (desk s).counts;
+  misses = (desk s).misses;
+  glances = (desk s).glances;
   hinted = is_noted (desk s).hints;
   counted = is_counted (desk s).counts;
 }
 
--- as the calls of the table see it, which count neither stops nor reads
+-- as the calls of the table see it, which count no stops
 abbrev pub seat_meaning : Work → Seat → Meaning
-seat_meaning w s = table_meaning w s 0 0 None
+seat_meaning w s = table_meaning w s 0
 
 abbrev pub SeatStays : Work → Seat → Seat → Type 0
 SeatStays w s s' = Stays (seat_meaning w s) (seat_meaning w s')
 
--- a lock was found taken: the seat noted it, with the word that it found
-pub record Missed (w : Work) (s s' : Seat) (holder : ℕ) : Type 0 where
+abbrev pub SeatQuiet : Work → Seat → Seat → Type 0
+SeatQuiet w s s' = IsQuiet (seat_meaning w s) (seat_meaning w s')
+
+-- the lock of this home was found taken: the seat noted the word that it found there, which is the holder's number plus 1
+pub record Missed (w : Work) (s s' : Seat) (k : HomeId) (holder : ℕ) : Type 0 where
   pub stays : SeatStays w s s'
   pub acting : s'.acting ≡ s.acting
-  pub fails : (desk s').fails ≡ (desk s).fails + 1
-  pub last : (desk s').last ≡ holder + 1
+  pub misses : (desk s').misses ≡ miss w k (holder + 1) ∷ (desk s).misses
 
 abbrev pub SeatTakes : Work → Seat → Seat → HomeId → Take → Type 0
 SeatTakes w s s' k Taken = (x : Home) × (home_id x ≡ k) × Gains (seat_meaning w s) (seat_meaning w s') x
-SeatTakes w s s' k (Busy holder) = Missed w s s' holder.0
+SeatTakes w s s' k (Busy holder) = Missed w s s' k holder.0
 
 -- the home that was taken last came from its slot to the hand
 pub record Lifted (k : HomeId) (index : ℕ) (s s' : Seat) : Type 0 where
@@ -159,11 +162,13 @@ pub record SeatCounts (w : Work) (s s' : Seat) (c n : ℕ) : Type 0 where
   pub stays : SeatStays w s s'
   pub acting : s'.acting ≡ s.acting
   pub noted : (desk s').counts ≡ record { cpu = c; number = n } ∷ (desk s).counts
+  pub misses : (desk s').misses ≡ (desk s).misses
   pub counted : is_counted (desk s').counts c n ≡ true
 
 -- a hint was read, and noted
 pub record SeatHints (w : Work) (s s' : Seat) (c : ℕ) (which : Which) (n : ℕ) : Type 0 where
   pub stays : SeatStays w s s'
+  pub quiet : SeatQuiet w s s'
   pub acting : s'.acting ≡ s.acting
   pub noted : (desk s').hints ≡ record { cpu = c; which = which; number = n } ∷ (desk s).hints
   pub hinted : is_noted (desk s').hints c which n ≡ true

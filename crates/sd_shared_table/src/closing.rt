@@ -75,8 +75,6 @@ impl Shared {
             },
             actors,
             entries,
-            reads: 0,
-            last: None,
         })
     }
 

@@ -7,7 +7,7 @@ ghost use Rattle.sd_homes.specs.declared.home.Home.{Home as HomeOf};
 ghost use Rattle.sd_homes.specs.Families.{home_id};
 ghost use Rattle.sd_hand.specs.Hands.{held as held_in, how_many_held};
 ghost use Rattle.sd_world.specs.Worlds.{CanTake};
-ghost use Rattle.sd_shared_table.specs.Seats.{Fits, HasLast, Lifted, Lowered, SeatStays, SeatTakes, id_of, seat_meaning, work_of};
+ghost use Rattle.sd_shared_table.specs.Seats.{Fits, HasLast, Lifted, Lowered, SeatQuiet, SeatStays, SeatTakes, id_of, seat_meaning, work_of};
 
 use crate::seat::{Held, Seat};
 use crate::shared::Shared;
@@ -17,8 +17,8 @@ use sd_world::Take;
 use std::marker::Brand;
 
 impl Shared {
-    /// One try to take a home: one exchange of its lock. `Busy` only where the lock had the holder's number plus 1 at this step, which the
-    /// seat notes.
+    /// One try to take a home: one exchange of its lock. `Busy` only where the lock of this home had the holder's number plus 1 at this step,
+    /// which the seat notes.
     pub fn try_take(&self, seat: &mut Seat, k: HomeId) -> Take
         requires fits { Fits (id_of self.now) (work_of self.now) seat.old }
         requires can { CanTake (seat_meaning (work_of self.now) seat.old) k }
@@ -60,6 +60,7 @@ impl Shared {
         requires some { 0 < how_many_held seat.old.acting.hand.slots }
         ensures fits { Fits (id_of self.now) (work_of self.now) seat.new }
         ensures stays { SeatStays (work_of self.now) seat.old seat.new }
+        ensures quiet { SeatQuiet (work_of self.now) seat.old seat.new }
         ensures less { how_many_held seat.old.acting.hand.slots ≡ how_many_held seat.new.acting.hand.slots + 1 }
     {
         let home = seat.put_down();

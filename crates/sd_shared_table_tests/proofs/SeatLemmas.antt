@@ -15,13 +15,13 @@ use Rattle.sd_world.specs.declared.world.Take.{Take}
 use Rattle.sd_world.specs.declared.world.Take.TheVariants as take
 use Rattle.sd_world.specs.declared.world.ThreadLock.{ThreadLock}
 use Rattle.sd_world.specs.declared.world.ThreadLock.TheVariants as thread
-use Rattle.sd_world.specs.Worlds.{CanTake, Gains}
+use Rattle.sd_world.specs.Worlds.{CanTake}
 use Rattle.sd_shared_rule.specs.Places.{now}
 use Rattle.sd_shared_rule.proofs.Bridge.{reached}
 use Rattle.sd_shared_table.specs.declared.seat.Seat.{Seat}
-use Rattle.sd_shared_table.specs.Seats.{Fits, SeatStays, SeatTakes, desk, seat_meaning}
+use Rattle.sd_shared_table.specs.Seats.{Fits, SeatTakes, desk, seat_meaning}
 use Rattle.sd_shared_table.specs.Whole.{AreSeats, IsSeatOf}
-use Rattle.sd_threads.specs.Locks.{SeatLocks}
+use Rattle.sd_threads.specs.Locks.{IsTaken, SeatLocks, WasHeld}
 use Rattle.sd_shared_table_tests.specs.Sitting.{GoesOn, HasSought, HasTried, IsFreeAfter}
 
 module _ (t : TableId) (w : Work) where
@@ -32,9 +32,9 @@ module _ (t : TableId) (w : Work) where
       let cpus = (fit_reached w (length h) (now w h) (reached w h f.run)).fits.cpus in
       let some = w.some_cpu in
       record {
-        room = (let z : how_many_held s.acting.hand.slots < 4 = omega (arith, free) in z);
         there = omega (arith, cpus, some);
-        fresh = ap is_some (none_held (id.Cpu (record { 0 = 0 })) s.acting.hand.slots free);
+        room = λ few. (let z : how_many_held s.acting.hand.slots < 4 = omega (arith, free) in z);
+        fresh = λ few. ap is_some (none_held (id.Cpu (record { 0 = 0 })) s.acting.hand.slots free);
       }
 
   goes : (s s' : Seat) → Fits t w s' → s'.acting.actor ≡ s.acting.actor → GoesOn t w s s'
@@ -52,7 +52,7 @@ module _ (t : TableId) (w : Work) where
 
   pub sought : (s s' : Seat) (u : ThreadId) (r : ThreadLock) → how_many_held s.acting.hand.slots ≡ 0 → Fits t w s' → SeatLocks w s s' u r → HasSought t w s s' r
   sought s s' u (thread.Held k) free fits locks =
-      goes s s' fits (⊎_elim (λ (x : SeatStays w s s' × (s'.acting ≡ s.acting)). x.0.actor) (λ (x : Gains (seat_meaning w s) (seat_meaning w s') locks.home). x.stays.actor) locks.gains)
+      goes s s' fits (⊎_elim (λ (x : WasHeld w s s' u.0 k). x.stays.actor) (λ (x : IsTaken w s s' u.0 k locks.home). x.gains.stays.actor) locks.gains)
   sought s s' u (thread.Busy k holder) free fits locks = free_still s s' free fits locks.missed.acting
   sought s s' u (thread.Moved from to) free fits locks = free_still s s' free fits locks.acting
 

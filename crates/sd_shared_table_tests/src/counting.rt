@@ -41,7 +41,6 @@ struct CountedWorld<'a> {
 impl<'a> World for CountedWorld<'a> {
     ghost use Rattle.sd_shared_table.proofs.Fitting.{table_good};
     ghost use Rattle.sd_shared_table.specs.Seats.{id_of, work_of};
-    ghost use Rattle.sd_world.specs.Plain.{last_of};
     ghost use Rattle.sd_threads.specs.Tables.{IsTable, world_meaning};
 
     ghost meaning = { λ x. world_meaning x.table };
@@ -98,7 +97,7 @@ impl<'a> World for CountedWorld<'a> {
         self.table.give_all();
     }
 
-    ghost sound = { λ x h. table_good (work_of x.table.shared.now) (id_of x.table.shared.now) x.table.seat x.table.stops x.table.reads (last_of x.table.last) h };
+    ghost sound = { λ x h. table_good (work_of x.table.shared.now) (id_of x.table.shared.now) x.table.seat x.table.stops h };
 }
 
 /// What the attempts of a processor came to.

@@ -57,9 +57,9 @@ fn try_home(shared: &Shared, seat: &mut Seat, t: ThreadId, index: usize, k: Home
 }
 
 /// One try to take the home in which a thread stands: the word of the thread is read, the home that it names is taken, and the word is
-/// read again. `Held`: the home is in the hand, and the thread stands in it. Where the hand has the home that the word names, nothing is
-/// taken. `Busy` only where the lock of that home had the holder's number plus 1. `Moved` only where the word named `from` and then
-/// `to`, which differ; the home was given back.
+/// read again. `Held`: the home is in the hand, and the thread stands in it; both times the word named that home. Where the hand has the
+/// home that the word names, nothing is taken, and the word is read once. `Busy` only where the word named that home, whose lock had the
+/// holder's number plus 1. `Moved` only where the word named `from` and then `to`, which differ; the home was given back.
 pub fn try_lock_thread(shared: &Shared, seat: &mut Seat, t: ThreadId) -> ThreadLock
     requires fits { Fits (id_of shared.now) (work_of shared.now) seat.old }
     requires there { t.0 < thread_count (work_of shared.now) }

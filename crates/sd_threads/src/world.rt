@@ -17,15 +17,12 @@ use sd_shared_table::{Seat, Shared};
 use sd_types::{CpuId, Event, Hints, HomeId, Stop, ThreadId, Which, Work};
 use sd_world::{Behind, Take, ThreadLock, World};
 
-/// The seat of a processor at a table; how often another processor was in its way, how often it read a count, and the last that it read.
-/// Both numbers stay at the greatest `u64`.
+/// The seat of a processor at a table, and how often another processor was in its way, which stays at the greatest `u64`.
 #[derive(Drop)]
 pub struct TableWorld<'a> {
     pub shared: &'a Shared,
     pub seat: Seat,
     pub stops: u64,
-    pub reads: u64,
-    pub last: Option<Behind>,
 }
 
 impl<'a> TableWorld<'a> {
@@ -40,8 +37,6 @@ impl<'a> TableWorld<'a> {
             shared,
             seat,
             stops: 0,
-            reads: 0,
-            last: None,
         }
     }
 
@@ -61,7 +56,7 @@ impl<'a> TableWorld<'a> {
         self.stops = self.stops.saturating_add(1);
     }
 
-    /// Reads the count of processor `c`, and notes it.
+    /// Reads the count of processor `c`, which the seat notes.
     fn count_of(&mut self, c: CpuId) -> u32
         requires good { IsTable self.old }
         requires cpu { c.0 < (the_work self.old).cpus }
@@ -69,10 +64,7 @@ impl<'a> TableWorld<'a> {
         ensures table { self.new.shared ≡ self.old.shared }
         ensures reads { ReadsCount (world_meaning self.old) (world_meaning self.new) c.0 result }
     {
-        let count = self.shared.count_of(&mut self.seat, c);
-        self.reads = self.reads.saturating_add(1);
-        self.last = Some(Behind { cpu: c, count });
-        count
+        self.shared.count_of(&mut self.seat, c)
     }
 
     /// Whether processor `d` has counted less than the one that acts, as far as it shows it.
@@ -118,7 +110,6 @@ impl<'a> TableWorld<'a> {
 impl<'a> World for TableWorld<'a> {
     ghost use Rattle.sd_shared_table.proofs.Fitting.{table_good};
     ghost use Rattle.sd_shared_table.specs.Seats.{id_of, work_of};
-    ghost use Rattle.sd_world.specs.Plain.{last_of};
     ghost use Rattle.sd_threads.specs.Tables.{IsTable, world_meaning};
 
     ghost meaning = { λ x. world_meaning x };
@@ -188,5 +179,5 @@ impl<'a> World for TableWorld<'a> {
         }
     }
 
-    ghost sound = { λ x h. table_good (work_of x.shared.now) (id_of x.shared.now) x.seat x.stops x.reads (last_of x.last) h };
+    ghost sound = { λ x h. table_good (work_of x.shared.now) (id_of x.shared.now) x.seat x.stops h };
 }

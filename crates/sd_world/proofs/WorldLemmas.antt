@@ -1,11 +1,13 @@
 -- A run on homes as a world that nobody shares.
 use Rattle.std.proofs.Common.{◌≡◌, ◌+◌, ◌-◌, ◌<◌, ◌≤◌, true, List, [], ◌∷◌, ◌++◌, length, map, get_or, MatchOption, Option, Some, None, refl, sym, ap, ◌∙◌, subst, arith, append_assoc}
 use Rattle.std.specs.Prelude.{nat_le}
-use Rattle.std.proofs.lemmas.Bool.{eq-eqb}
+use Rattle.std.proofs.lemmas.Bool.{eq-eqb, false≢true}
 use Rattle.std.proofs.lemmas.Bool.Decides.{nat_tests}
 use Rattle.std.proofs.lemmas.List.{append-nil}
 use Rattle.std.proofs.lemmas.Option.{slice_get-get_or, slice_get_within}
 use Rattle.sd_types.specs.declared.numbers.CpuId.{CpuId}
+use Rattle.sd_types.specs.declared.numbers.HomeId.{HomeId}
+use Rattle.sd_types.specs.declared.numbers.ThreadId.{ThreadId}
 use Rattle.sd_types.specs.declared.events.Entry.{Entry}
 use Rattle.sd_types.specs.declared.events.Which.{Which}
 use Rattle.sd_types.specs.declared.works.Work.{Work}
@@ -14,13 +16,23 @@ use Rattle.sd_state.specs.Opening.{opening}
 use Rattle.sd_machine.specs.Hints.{hint_shown}
 use Rattle.sd_machine.specs.Runs.{IsRun, final}
 use Rattle.sd_invariants.proofs.Whole.{fit_reached}
+use Rattle.sd_homes.specs.Numbers.{IsHomeOf}
+use Rattle.sd_homes.specs.Standing.{home_at}
+use Rattle.sd_homes.specs.Families.{home_id}
+use Rattle.sd_homes.specs.declared.home.Home.{Home}
+use Rattle.sd_homes.specs.declared.list_id.ListId.{ListId}
+use Rattle.sd_hand.specs.Hands.{StandsIn, held}
 use Rattle.sd_hand.specs.OneHome.{AreAllHomes}
+use Rattle.sd_hand.proofs.MoveLemmas.{held_by}
+use Rattle.sd_hand.proofs.SlotLemmas.{held_id}
 use Rattle.sd_world.specs.Told.{AreActorsOf, IsActorOf}
 use Rattle.sd_footprint.specs.There.{IsPartThere}
 use Rattle.sd_world.specs.declared.plain.PlainWorld.{PlainWorld}
 use Rattle.sd_world.specs.declared.world.Behind.{Behind}
-use Rattle.sd_world.specs.Plain.{HasStood, IsLess, IsPlain, NoneLess, Stands, last_of, plain_meaning, told}
-use Rattle.sd_world.specs.Worlds.{AllHinted, Begins, Finds, IsBehind, IsQuiet, Meaning, NoneBehind, ReadsCounts, Rises, Stays, after_run}
+use Rattle.sd_world.specs.declared.world.Take.TheVariants.{Taken}
+use Rattle.sd_world.specs.declared.world.ThreadLock.TheVariants as thread
+use Rattle.sd_world.specs.Plain.{HasStood, IsLess, IsPlain, NoneLess, Stands, plain_meaning, told}
+use Rattle.sd_world.specs.Worlds.{AllHinted, Begins, Finds, Gets, IsBehind, IsQuiet, Locks, Meaning, NoneBehind, ReadsCounts, Stays, Takes, after_run}
 use Rattle.sd_world.proofs.PlainLemmas.{actor_inside, cpu_inside, has_there, reached, shown}
 
 pub begins_same : (es : List Entry) → Begins es es
@@ -33,7 +45,7 @@ pub stays_same : (m : Meaning) → Stays m m
 stays_same m = record { table = refl; work = refl; alone = refl; all = refl; actor = refl; log = refl; begins = begins_same m.seen; still = λ e. refl; hinted = λ c which n h. h; counted = λ c n h. h }
 
 pub quiet_same : (m : Meaning) → IsQuiet m m
-quiet_same m = record { stops = refl; reads = refl; last = refl }
+quiet_same m = record { stops = refl; notes = refl; misses = refl }
 
 pub stays_then : (m m' m'' : Meaning) → Stays m m' → Stays m' m'' → Stays m m''
 stays_then m m' m'' a b = record {
@@ -50,7 +62,10 @@ stays_then m m' m'' a b = record {
 }
 
 pub quiet_then : (m m' m'' : Meaning) → IsQuiet m m' → IsQuiet m' m'' → IsQuiet m m''
-quiet_then m m' m'' a b = record { stops = b.stops ∙ a.stops; reads = b.reads ∙ a.reads; last = b.last ∙ a.last }
+quiet_then m m' m'' a b = record { stops = b.stops ∙ a.stops; notes = b.notes ∙ a.notes; misses = b.misses ∙ a.misses }
+
+pub counts_same : (m : Meaning) → ReadsCounts m m
+counts_same m = record { stays = stays_same m; stops = refl; misses = refl; notes = ([], refl); acting = refl }
 
 pub plain_good : (x : PlainWorld) → Stands x.work.now x → IsPlain x
 plain_good x st = record {
@@ -63,7 +78,7 @@ plain_good x st = record {
   };
 }
 
--- another log with the same entries, and other notes
+-- another log with the same entries
 pub stands_beside : (w : Work) (x y : PlainWorld) → y.acting ≡ x.acting → y.actors ≡ x.actors → y.entries.items ≡ x.entries.items → Stands w x → Stands w y
 stands_beside w x y a b e st = record {
   run = subst (λ es. IsRun w es) (sym e) st.run;
@@ -74,24 +89,10 @@ stands_beside w x y a b e st = record {
   stood = subst (λ es. HasStood w es) (sym e) st.stood;
 }
 
--- notes alone are changed
-pub noted : (x y : PlainWorld) (found : Option Behind) → y ≡ record x { reads = y.reads; last = found } → y ≡ record x { reads = y.reads; last = y.last }
-noted x y found e = e ∙ ap (λ o. record x { reads = y.reads; last = o }) (sym (ap (λ (z : PlainWorld). z.last) e))
-
-pub stands_with_notes : (x y : PlainWorld) (found : Option Behind) → y ≡ record x { reads = y.reads; last = found } → Stands x.work.now x → Stands y.work.now y
-stands_with_notes x y found e st = subst (λ (z : PlainWorld). Stands z.work.now z) (sym e) (stands_beside x.work.now x (record x { reads = y.reads; last = found }) refl refl refl st)
-
 -- the numbers that the state shows are hints
 pub all_hinted : (x : PlainWorld) (kind : Which) (cs : List CpuId) → AllHinted (plain_meaning x) kind cs (map (hint_shown (told x.work.now x) kind) cs)
 all_hinted x kind [] = tt
 all_hinted x kind (c ∷ cs) = (eq-eqb (hint_shown (told x.work.now x) kind c) (hint_shown (told x.work.now x) kind c) refl, all_hinted x kind cs)
-
--- the same but for its notes
-stays_noted : (x y : PlainWorld) → y ≡ record x { reads = y.reads; last = y.last } → Stays (plain_meaning x) (plain_meaning y)
-stays_noted x y e = subst (λ z. Stays (plain_meaning x) (plain_meaning z)) (sym e) (record { table = refl; work = refl; alone = refl; all = refl; actor = refl; log = refl; begins = begins_same x.entries.items; still = λ t. refl; hinted = λ c which n h. h; counted = λ c n h. h })
-
-pub reads_counts : (x y : PlainWorld) → y ≡ record x { reads = y.reads; last = y.last } → Rises x.reads y.reads → ReadsCounts (plain_meaning x) (plain_meaning y)
-reads_counts x y e rises = record { stays = stays_noted x y e; stops = refl; reads = rises.0; acting = ap (λ (z : PlainWorld). z.acting) e }
 
 none_behind : (x : PlainWorld) → IsPlain x → NoneLess x.actors.items x.acting.actor.count → NoneBehind (plain_meaning x)
 none_behind x is none d inside other =
@@ -104,24 +105,48 @@ none_behind x is none d inside other =
     let n = (cpu_of (told w x) d).count in
     (n, (let z : x.acting.actor.count ≤ n = omega (arith, own, same) in z), (let z : nat_le n n ≡ true = grind (arith, nat_tests) in z))
 
-one_behind : (x y : PlainWorld) (b : Behind) → IsPlain x → y ≡ record x { reads = y.reads; last = y.last } → Rises x.reads y.reads → y.last ≡ Some b
-    → IsLess x.actors.items x.acting.actor.count b → IsBehind (plain_meaning x) (plain_meaning y) b
-one_behind x y b is e rises last less =
+one_behind : (x : PlainWorld) (b : Behind) → IsPlain x → IsLess x.actors.items x.acting.actor.count b → IsBehind (plain_meaning x) (plain_meaning x) b.cpu.0 b.count
+one_behind x b is less =
     let w = x.work.now in
     let of = is.stands.actors.each less.index less.actor less.there in
     let index : b.cpu.0 ≡ less.index = ap (λ (c : CpuId). c.0) less.cpu ∙ of.cpu in
     let within = slice_get_within x.actors.items less.index less.actor less.there in
     let many = is.stands.actors.many in
     let cpus = (fit_reached w (length x.entries.items) (told w x) (reached w x is.stands)).fits.cpus in
+    let low = less.less in
+    let own : b.count ≡ (cpu_of (told w x) b.cpu.0).count = less.same ∙ of.count ∙ ap (λ k. (cpu_of (told w x) k).count) (sym index) in
     record {
-      less = less.less;
-      rises = rises;
-      last = ap last_of last;
+      less = low;
       there = omega (arith, index, within, many, cpus);
-      own = λ t. less.same ∙ of.count ∙ ap (λ k. (cpu_of (told w x) k).count) (sym index);
+      other = λ e. let same : b.count ≡ x.acting.actor.count = own ∙ (ap (λ k. (cpu_of (told w x) k).count) e ∙ sym is.stands.acts.count) in omega (arith, same, low);
+      reached = subst (λ k. nat_le b.count k ≡ true) own (let z : nat_le b.count b.count ≡ true = grind (arith, nat_tests) in z);
+      own = λ t. own;
+      newest = λ e. absurd (false≢true (sym e));
     }
 
-pub finds : (x y : PlainWorld) (r : Option Behind) → IsPlain x → y ≡ record x { reads = y.reads; last = y.last } → Rises x.reads y.reads → y.last ≡ r
-    → MatchOption r (NoneLess x.actors.items x.acting.actor.count) (IsLess x.actors.items x.acting.actor.count) → Finds (plain_meaning x) (plain_meaning y) r
-finds x y None is e rises last none = subst (λ z. NoneBehind (plain_meaning z)) (sym e) (none_behind x is none)
-finds x y (Some b) is e rises last less = one_behind x y b is e rises last less
+pub finds : (x : PlainWorld) (r : Option Behind) → IsPlain x → MatchOption r (NoneLess x.actors.items x.acting.actor.count) (IsLess x.actors.items x.acting.actor.count) → Finds (plain_meaning x) (plain_meaning x) r
+finds x None is none = none_behind x is none
+finds x (Some b) is less = one_behind x b is less
+
+-- each home of the run is in its hand
+had : (x : PlainWorld) (h : Home) → held (home_id h) x.acting.hand.slots ≡ Some h → Gets (plain_meaning x) (plain_meaning x) h
+had x h e = record {
+  gains = λ few. absurd (false≢true (sym few));
+  had = λ all. record { stays = stays_same (plain_meaning x); quiet = quiet_same (plain_meaning x); acting = refl; here = e };
+}
+
+pub takes : (x : PlainWorld) (k : HomeId) → IsPlain x → IsHomeOf (told x.work.now x) k → Takes (plain_meaning x) (plain_meaning x) k Taken
+takes x k is there =
+    let (h, e) = is.stands.all.all k there in
+    let same = held_id k h x.acting.hand.slots e in
+    (h, sym same, had x h (ap (λ j. held j x.acting.hand.slots) (sym same) ∙ e))
+
+pub locks : (x : PlainWorld) (t : ThreadId) (at : ListId) (k : HomeId) → IsPlain x → k ≡ home_at at → StandsIn t.0 x.acting.hand.slots at → Locks (plain_meaning x) (plain_meaning x) t (thread.Held k)
+locks x t at k is same stands =
+    let there = held_by t.0 at x.acting.hand.slots stands is.stands.all.apart in (
+      stands.home,
+      sym stands.listed.home ∙ sym same,
+      (at, stands.listed),
+      had x stands.home (ap (λ j. held j x.acting.hand.slots) (sym stands.listed.home) ∙ there),
+      (λ e. absurd (false≢true (sym e))),
+    )

@@ -4,6 +4,7 @@
 use Rattle.std.specs.Prelude.{◌≡◌, ℕ, ◌+◌, ◌<◌, nat_lt, List, [], Option, Some, None, length, slice_get, if◌then◌else◌}
 use Rattle.sd_types.specs.declared.numbers.HomeId.{HomeId}
 use Rattle.sd_types.specs.declared.numbers.HomeId.TheVariants as id
+use Rattle.sd_types.specs.declared.works.Work.{Work}
 use Rattle.sd_state.specs.declared.states.State.{State}
 use Rattle.sd_homes.specs.Standing.{ByNumber, look_of}
 use Rattle.sd_homes.specs.declared.home.Home.{Home}
@@ -19,6 +20,10 @@ pub record Sizes : Type 0 where
 
 abbrev pub sizes_of : State → Sizes
 sizes_of s = record { cpus = length s.cpus; sets = length s.open_cpus }
+
+-- of a run of this workload: one real-time queue for the default partition and one for each declared set
+abbrev pub sizes_in : Work → Sizes
+sizes_in w = record { cpus = w.cpus; sets = length w.sets + 1 }
 
 abbrev pub how_many : Sizes → ℕ
 how_many z = z.cpus + z.sets + 64 + 64

@@ -1,6 +1,6 @@
 -- A run that goes on homes, all of which one thread of the host has.
 -- Source: this project's own.
-use Rattle.std.specs.Prelude.{◌≡◌, ℕ, ◌<◌, ◌≤◌, ◌==◌, nat_le, true, List, length, slice_get, Option, Some, None}
+use Rattle.std.specs.Prelude.{◌≡◌, ℕ, ◌<◌, ◌≤◌, ◌==◌, nat_le, true, List, [], length, slice_get, Option, Some, None}
 use Rattle.std.specs.List.{Contains}
 use Rattle.sd_types.specs.declared.events.Which.{Which}
 use Rattle.sd_types.specs.declared.events.Which.TheVariants.{Running as OfRunning, Queued as OfQueued}
@@ -21,7 +21,7 @@ use Rattle.sd_hand.specs.declared.acting.Actor.{Actor}
 use Rattle.sd_hand.specs.Acting.{IsShown}
 use Rattle.sd_world.specs.declared.plain.PlainWorld.{PlainWorld}
 use Rattle.sd_world.specs.declared.world.Behind.{Behind}
-use Rattle.sd_world.specs.Worlds.{IsGood, Meaning, Rises}
+use Rattle.sd_world.specs.Worlds.{IsGood, Meaning}
 
 -- the state to which its entries lead
 abbrev pub told : Work → PlainWorld → State
@@ -74,15 +74,7 @@ pub record IsLess (actors : List Actor) (count : ℕ) (b : Behind) : Type 0 wher
   pub same : b.count ≡ actor.count
   pub less : b.count < count
 
--- it was asked who has counted less, and notes who was found
-abbrev pub HasNoted : PlainWorld → PlainWorld → Option Behind → Type 0
-HasNoted x y found = (y ≡ record x { reads = y.reads; last = found }) × Rises x.reads y.reads
-
-abbrev pub last_of : Option Behind → Option (ℕ × ℕ)
-last_of None = None
-last_of (Some b) = Some (b.cpu.0, b.count)
-
--- as a world: nobody else makes entries, and all homes are in its hand; a number is a hint where the state shows it
+-- as a world: nobody else makes entries, so nothing is read of others, and all homes are in its hand; a number is a hint where the state shows it
 abbrev pub plain_meaning : PlainWorld → Meaning
 plain_meaning x = record {
   table = None;
@@ -94,8 +86,9 @@ plain_meaning x = record {
   seen = x.entries.items;
   spare = x.entries.room;
   stops = 0;
-  reads = x.reads;
-  last = last_of x.last;
+  notes = [];
+  misses = [];
+  glances = [];
   hinted = λ c which n. n == hint_shown (told x.work.now x) which (record { 0 = c });
   counted = λ c n. nat_le n (cpu_of (told x.work.now x) c).count;
 }

@@ -31,8 +31,12 @@ use Rattle.sd_homes.specs.Families.{has, home_id, list_in}
 use Rattle.sd_homes.specs.Kinds.{IsListed}
 use Rattle.sd_hand.specs.declared.acting.Acting.{Acting}
 use Rattle.sd_hand.specs.Acting.{IsShown, has_part}
-use Rattle.sd_hand.specs.Hands.{HoldsMore, has_thread, how_many_held}
+use Rattle.sd_hand.specs.Hands.{HoldsMore, has_thread, held as held_in, how_many_held}
 use Rattle.sd_footprint.specs.There.{IsPartThere}
+use Rattle.sd_world.specs.Homes.{IsNumber, index_of, sizes_in}
+use Rattle.sd_world.specs.declared.notes.Count.{Count}
+use Rattle.sd_world.specs.declared.notes.Glance.{Glance}
+use Rattle.sd_world.specs.declared.notes.Miss.{Miss}
 use Rattle.sd_world.specs.declared.world.Take.{Take}
 use Rattle.sd_world.specs.declared.world.Take.TheVariants.{Taken, Busy}
 use Rattle.sd_world.specs.declared.world.ThreadLock.{ThreadLock}
@@ -40,8 +44,8 @@ use Rattle.sd_world.specs.declared.world.ThreadLock.TheVariants as thread
 use Rattle.sd_world.specs.declared.world.Behind.{Behind}
 
 -- which table it is, where it is one; the work; whether nobody else makes entries; whether it has all homes in its hand from the first; the processor that acts, with its
--- hand; the entries that this world made, and the run that it has seen; room for entries; how often it was stopped, how often it read
--- counts, and the last count that it read; which numbers may be used as hints, and which a processor's count has reached
+-- hand; the entries that this world made, and the run that it has seen; room for entries; how often it was stopped; the counts of others that it read, the locks that it
+-- found taken and the homes that the words of threads named, the newest first; which numbers may be used as hints, and which a processor's count has reached
 pub record Meaning : Type 0 where
   pub table : Option TableId
   pub work : Work
@@ -52,8 +56,9 @@ pub record Meaning : Type 0 where
   pub seen : List Entry
   pub spare : ℕ
   pub stops : ℕ
-  pub reads : ℕ
-  pub last : Option (ℕ × ℕ)
+  pub notes : List Count
+  pub misses : List Miss
+  pub glances : List Glance
   pub hinted : ℕ → Which → ℕ → Bool
   pub counted : ℕ → ℕ → Bool
 
@@ -106,11 +111,11 @@ pub record Stays (m m' : Meaning) : Type 0 where
   pub hinted : (c : ℕ) (which : Which) (n : ℕ) → m.hinted c which n ≡ true → m'.hinted c which n ≡ true
   pub counted : (c n : ℕ) → m.counted c n ≡ true → m'.counted c n ≡ true
 
--- and neither a stop nor a read is counted
+-- and no stop is counted, no count was read, and no lock was found taken
 pub record IsQuiet (m m' : Meaning) : Type 0 where
   pub stops : m'.stops ≡ m.stops
-  pub reads : m'.reads ≡ m.reads
-  pub last : m'.last ≡ m.last
+  pub notes : m'.notes ≡ m.notes
+  pub misses : m'.misses ≡ m.misses
 
 -- stopped by another processor
 pub record IsStopped (m m' : Meaning) : Type 0 where
@@ -125,30 +130,68 @@ pub record Gains (m m' : Meaning) (home : Home) : Type 0 where
   pub more : HoldsMore (slots_of m) home (slots_of m')
   pub count : how_many_held (slots_of m') ≡ how_many_held (slots_of m) + 1
 
--- a home of the run that is not held, and there is room for it
+-- it was in the hand, and nothing is changed
+pub record HadHome (m m' : Meaning) (home : Home) : Type 0 where
+  pub stays : Stays m m'
+  pub quiet : IsQuiet m m'
+  pub acting : m'.acting ≡ m.acting
+  pub here : held_in (home_id home) (slots_of m) ≡ Some home
+
+-- it is held, and was in the hand before only where the world has all homes from the first
+pub record Gets (m m' : Meaning) (home : Home) : Type 0 where
+  pub gains : m.all ≡ false → Gains m m' home
+  pub had : m.all ≡ true → HadHome m m' home
+
+-- this word was found in the lock of the home
+abbrev pub miss : Work → HomeId → ℕ → Miss
+miss w k n = record { home = index_of (sizes_in w) k; word = n }
+
+-- where others make entries too, one lock was found taken: that of this home, whose word had the holder's number plus 1
+abbrev pub Misses : Meaning → Meaning → HomeId → CpuId → Type 0
+Misses m m' k holder = m.alone ≡ false → m'.misses ≡ miss m.work k (holder.0 + 1) ∷ m.misses
+
+-- the word of thread t named this home
+abbrev pub glance : Work → ℕ → HomeId → Glance
+glance w t k = record { thread = t; home = index_of (sizes_in w) k }
+
+-- homes of the run
+abbrev pub AreHomesOf : Work → List HomeId → Type 0
+AreHomesOf w [] = ⊤
+AreHomesOf w (k ∷ ks) = IsNumber (sizes_in w) k × AreHomesOf w ks
+
+-- the word of the thread was read so often, and named these homes of the run, the last one first
+pub record HasGlanced (m m' : Meaning) (t : ThreadId) (ks : List HomeId) : Type 0 where
+  pub homes : AreHomesOf m.work ks
+  pub glances : m'.glances ≡ map (glance m.work t.0) ks ++ m.glances
+
+abbrev pub Glances : Meaning → Meaning → ThreadId → List HomeId → Type 0
+Glances m m' t ks = m.alone ≡ false → HasGlanced m m' t ks
+
+-- a home of the run; where the world has not all homes from the first, it is not held, and there is room for it
 pub record CanTake (m : Meaning) (k : HomeId) : Type 0 where
-  pub room : how_many_held (slots_of m) < 4
   pub there : IsHomeOf (now m) k
-  pub fresh : has_part m.acting (part.Home k) ≡ false
+  pub room : m.all ≡ false → how_many_held (slots_of m) < 4
+  pub fresh : m.all ≡ false → has_part m.acting (part.Home k) ≡ false
 
 abbrev pub Takes : Meaning → Meaning → HomeId → Take → Type 0
-Takes m m' k Taken = (x : Home) × (home_id x ≡ k) × Gains m m' x
-Takes m m' k (Busy holder) = IsStopped m m'
+Takes m m' k Taken = (x : Home) × (home_id x ≡ k) × Gets m m' x
+Takes m m' k (Busy holder) = IsStopped m m' × Misses m m' k holder
 
--- a thread of the run whose home is not held, and there is room for it
+-- a thread of the run; where the world has not all homes from the first, its home is not held, and there is room for it
 pub record CanLock (m : Meaning) (t : ThreadId) : Type 0 where
-  pub room : how_many_held (slots_of m) < 4
   pub there : t.0 < length (now m).threads
-  pub fresh : has_thread t.0 (slots_of m) ≡ false
+  pub room : m.all ≡ false → how_many_held (slots_of m) < 4
+  pub fresh : m.all ≡ false → has_thread t.0 (slots_of m) ≡ false
 
 -- the thread stands in one of the lists of the home
 abbrev pub IsListedIn : ThreadId → Home → Type 0
 IsListedIn t x = (sp : ListId) × IsListed t.0 (home_id x) (list_in x) (has t.0 x) sp
 
+-- where others make entries too, the word of the thread named the home: twice, the second time while it was held, or once, or it named another one the second time
 abbrev pub Locks : Meaning → Meaning → ThreadId → ThreadLock → Type 0
-Locks m m' t (thread.Held k) = (x : Home) × (home_id x ≡ k) × IsListedIn t x × Gains m m' x
-Locks m m' t (thread.Busy k holder) = IsStopped m m'
-Locks m m' t (thread.Moved a b) = IsStopped m m' × (a ≢ b)
+Locks m m' t (thread.Held k) = (x : Home) × (home_id x ≡ k) × IsListedIn t x × Gets m m' x × Glances m m' t (k ∷ k ∷ [])
+Locks m m' t (thread.Busy k holder) = IsStopped m m' × Misses m m' k holder × Glances m m' t (k ∷ [])
+Locks m m' t (thread.Moved a b) = IsStopped m m' × (a ≢ b) × Glances m m' t (b ∷ a ∷ [])
 
 -- each number may be used as a hint of its processor
 abbrev pub AllHinted : Meaning → Which → List CpuId → List ℕ → Type 0
@@ -165,28 +208,43 @@ pub record ReadsHints (m m' : Meaning) (reading : Reading) (hints : Hints) : Typ
   pub hinted : AllHinted m' reading.which reading.cpus.items hints.numbers.items
   pub own : m.alone ≡ true → hints.numbers.items ≡ map (hint_shown (now m) reading.which) reading.cpus.items
 
+-- this number was read of processor c
+abbrev pub note : ℕ → ℕ → Count
+note c n = record { cpu = c; number = n }
+
+-- these were added in front
+abbrev pub Adds : List Count → List Count → Type 0
+Adds old new = (more : List Count) × (new ≡ more ++ old)
+
 -- the counts of others were read, until one was below the own
 pub record ReadsCounts (m m' : Meaning) : Type 0 where
   pub stays : Stays m m'
   pub stops : m'.stops ≡ m.stops
-  pub reads : m.reads ≤ m'.reads
+  pub misses : m'.misses ≡ m.misses
+  pub notes : Adds m.notes m'.notes
   pub acting : m'.acting ≡ m.acting
 
 -- of every other processor a number was read that its count has reached, and that is not below the own count
 abbrev pub NoneBehind : Meaning → Type 0
 NoneBehind m = (d : ℕ) → d < m.work.cpus → d ≢ (actor_of m).0 → (n : ℕ) × (m.acting.actor.count ≤ n) × (m.counted d n ≡ true)
 
--- the last that was read is below it: where nobody else makes entries, it is the processor's count
-pub record IsBehind (m m' : Meaning) (b : Behind) : Type 0 where
-  pub less : b.count < m.acting.actor.count
-  pub rises : Rises m.reads m'.reads
-  pub last : m'.last ≡ Some (b.cpu.0, b.count)
-  pub there : b.cpu.0 < m.work.cpus
-  pub own : m.alone ≡ true → b.count ≡ (cpu_of (now m) b.cpu.0).count
+-- this count of this processor is the newest of those that were read in the call
+abbrev pub IsNewest : Meaning → Meaning → ℕ → ℕ → Type 0
+IsNewest m m' c n = (more : List Count) × (m'.notes ≡ note c n ∷ (more ++ m.notes))
+
+-- another processor, whose count has reached this number, which is below the own count: where nobody else makes entries it is the processor's count, and else
+-- the last that was read
+pub record IsBehind (m m' : Meaning) (c n : ℕ) : Type 0 where
+  pub less : n < m.acting.actor.count
+  pub there : c < m.work.cpus
+  pub other : c ≢ (actor_of m).0
+  pub reached : m'.counted c n ≡ true
+  pub own : m.alone ≡ true → n ≡ (cpu_of (now m) c).count
+  pub newest : m.alone ≡ false → IsNewest m m' c n
 
 abbrev pub Finds : Meaning → Meaning → Option Behind → Type 0
 Finds m m' None = NoneBehind m'
-Finds m m' (Some b) = IsBehind m m' b
+Finds m m' (Some b) = IsBehind m m' b.cpu.0 b.count
 
 -- room for an entry
 pub record Reserves (m m' : Meaning) : Type 0 where
@@ -240,7 +298,7 @@ pub record Made (m m' : Meaning) (n : ℕ) (e : Event) (hints : Option Hints) (h
   pub after : Begins (h ++ entry_of m n e hints ∷ []) m'.seen
   pub after_still : m.alone ≡ true → m'.seen ≡ h ++ entry_of m n e hints ∷ []
 
--- which homes are held is as before
+-- the hand has what it had; where others make entries too, a number may be used as a hint only once it is read again
 pub record Commits (m m' : Meaning) (n : ℕ) (e : Event) (hints : Option Hints) : Type 0 where
   pub run : List Entry
   pub made : Made m m' n e hints run
@@ -250,6 +308,8 @@ pub record Commits (m m' : Meaning) (n : ℕ) (e : Event) (hints : Option Hints)
   pub alone : m'.alone ≡ m.alone
   pub all : m'.all ≡ m.all
   pub cpu : actor_of m' ≡ actor_of m
+  pub held : has_part m'.acting ≡ has_part m.acting
+  pub unhinted : m.alone ≡ false → (c : ℕ) (which : Which) (k : ℕ) → m'.hinted c which k ≡ false
 
 -- the hand is empty, unless it has all homes from the first
 pub record Gives (m m' : Meaning) : Type 0 where

@@ -10,7 +10,6 @@ ghost use Rattle.sd_types.specs.Limits.{most_processors};
 
 use crate::homes::Homes;
 use crate::snapshot::state_of;
-use crate::world::Behind;
 use sd_flat::cpu_of;
 use sd_hand::{Acting, Actor};
 use sd_homes::{ListId, list_at};
@@ -20,16 +19,13 @@ use sd_state::State;
 use sd_types::{CpuId, Work};
 use std::alloc::{AllocError, Global};
 
-/// All homes of a run of this workload, the processor that acts, the count and the duty of each, and the entries that were made; how
-/// often it was asked who is behind, and who was found last.
+/// All homes of a run of this workload, the processor that acts, the count and the duty of each, and the entries that were made.
 #[derive(Drop)]
 pub struct PlainWorld<'a> {
     pub work: &'a Work,
     pub acting: Acting,
     pub actors: Vec<Actor>,
     pub entries: EntryLog,
-    pub reads: u64,
-    pub last: Option<Behind>,
 }
 
 /// The lists in which the threads of a state stand: where look-ups begin.
@@ -94,8 +90,6 @@ impl<'a> PlainWorld<'a> {
             },
             actors,
             entries,
-            reads: 0,
-            last: None,
         })
     }
 

@@ -2,10 +2,11 @@
 
 ghost use Rattle.std.specs.Prelude.{◌≡◌, ◌++◌, ◌<◌, ◌≤◌, ◌∷◌, [], Some, length, map, nat_le, MatchOption};
 ghost use Rattle.std.specs.List.{list_all};
+ghost use Rattle.sd_hand.specs.Acting.{has_part};
 ghost use Rattle.sd_machine.specs.Hints.{hint_shown};
 ghost use Rattle.sd_machine.specs.Events.{may_tick, next};
 ghost use Rattle.sd_world.specs.Entries.{CanEnter, Enters};
-ghost use Rattle.sd_world.specs.Plain.{AreCpus, HasNoted, IsLess, NoneLess, Stands, told};
+ghost use Rattle.sd_world.specs.Plain.{AreCpus, IsLess, NoneLess, Stands, told};
 ghost use Rattle.sd_types.specs.Limits.{most_processors};
 
 use crate::entries::{enter, reserve_entry};
@@ -15,6 +16,7 @@ use crate::world::{Behind, Take, ThreadLock, World};
 use arrayvec::ArrayVec;
 use sd_dispatcher::Reading;
 use sd_hand::{Acting, Actor};
+use sd_homes::home_at;
 use sd_types::{CpuId, Event, Hints, HomeId, MOST_ENTRIES, Stop, ThreadId, Which, Work};
 
 /// The first processor that has counted less.
@@ -99,7 +101,8 @@ impl<'a> PlainWorld<'a> {
         ensures entries { self.new.entries.items ≡ self.old.entries.items
             ++ record { number = length self.old.entries.items; cpu = self.old.acting.actor.cpu; event = event; hints = hints.now } ∷ [] }
         ensures cpu { self.new.acting.actor.cpu ≡ self.old.acting.actor.cpu }
-        ensures rest { (self.new.work ≡ self.old.work) × (self.new.reads ≡ self.old.reads) × (self.new.last ≡ self.old.last) }
+        ensures work { self.new.work ≡ self.old.work }
+        ensures has { has_part self.new.acting ≡ has_part self.old.acting }
     {
         enter(
             work,
@@ -134,15 +137,11 @@ impl<'a> PlainWorld<'a> {
         );
     }
 
-    /// The first processor that has counted less than this, which is noted.
-    pub fn find_behind(&mut self, count: u32) -> Option<Behind>
-        ensures finds { MatchOption result (NoneLess self.old.actors.items count) (IsLess self.old.actors.items count) }
-        ensures notes { HasNoted self.old self.new result }
+    /// The first processor that has counted less than this.
+    pub fn find_behind(&self, count: u32) -> Option<Behind>
+        ensures { MatchOption result (NoneLess self.now.actors.items count) (IsLess self.now.actors.items count) }
     {
-        self.reads = self.reads.saturating_add(1);
-        let found = first_behind(&self.actors, count);
-        self.last = found;
-        found
+        first_behind(&self.actors, count)
     }
 }
 
@@ -162,11 +161,14 @@ impl<'a> World for PlainWorld<'a> {
     }
 
     fn take(&mut self, k: HomeId) -> Take {
-        unreachable!()
+        Take::Taken
     }
 
     fn lock_thread(&mut self, t: ThreadId) -> ThreadLock {
-        unreachable!()
+        match self.acting.hand.where_is(t) {
+            Ok(at) => ThreadLock::Held { home: home_at(at) },
+            Err(_) => unreachable!(),
+        }
     }
 
     fn hints(&mut self, work: &Work, reading: &Reading) -> Hints {
@@ -177,8 +179,7 @@ impl<'a> World for PlainWorld<'a> {
     }
 
     fn behind(&mut self, work: &Work) -> Option<Behind> {
-        let count = self.acting.actor.count;
-        self.find_behind(count)
+        self.find_behind(self.acting.actor.count)
     }
 
     fn reserve(&mut self) -> Result<(), Stop> {

@@ -47,14 +47,17 @@ pub trait World {
     fn has_all(&self) -> bool
         ensures { result ≡ (meaning self.now).all };
 
-    /// Takes the home of this number.
+    /// Takes the home of this number, or finds it in its hand where it has all. `Busy` only where another processor holds it: where others
+    /// make entries too, the lock of this very home was found taken, with that processor's number.
     fn take(&mut self, k: HomeId) -> Take
         requires good { good self.old }
         requires can { CanTake (meaning self.old) k }
         ensures good { good self.new }
         ensures takes { Takes (meaning self.old) (meaning self.new) k result };
 
-    /// Takes the home in which the thread stands.
+    /// Takes the home in which the thread stands, or finds it in its hand where it has all. Where others make entries too, `Busy` and `Moved`
+    /// tell what was read: the home that this thread's word named, whose lock was found taken; or two different homes that the word named,
+    /// one after the other.
     fn lock_thread(&mut self, t: ThreadId) -> ThreadLock
         requires good { good self.old }
         requires can { CanLock (meaning self.old) t }
@@ -69,7 +72,7 @@ pub trait World {
         ensures good { good self.new }
         ensures reads { ReadsHints (meaning self.old) (meaning self.new) reading.now result };
 
-    /// A processor whose count is below that of the processor that acts, where one is found.
+    /// Another processor whose count is below that of the processor that acts, where one is found, with the number that was read of it.
     fn behind(&mut self, work: &Work) -> Option<Behind>
         requires good { good self.old }
         requires work { work.now ≡ (meaning self.old).work }
@@ -84,7 +87,7 @@ pub trait World {
         ensures same { Reserves (meaning self.old) (meaning self.new) }
         ensures room { HasReserved (meaning self.old) (meaning self.new) result };
 
-    /// Makes this one entry, and answers its number.
+    /// Makes this one entry, and answers its number. The hand has what it had.
     fn commit(&mut self, work: &Work, event: Event, hints: Option<Hints>) -> u64
         requires good { good self.old }
         requires can { CanCommit (meaning self.old) work.now event hints }

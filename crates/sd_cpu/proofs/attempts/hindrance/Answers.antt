@@ -1,5 +1,5 @@
 use Rattle.sd_cpu.proofs.AttemptLemmas as M
-use Rattle.sd_cpu.proofs.MeaningLemmas.{counts_same}
+use Rattle.sd_world.proofs.WorldLemmas.{counts_same}
 use Rattle.sd_cpu.proofs.attempts.hindrance.Goals as goal
 
 pub returns-then-acting-work-clause-counts : goal.returns-then-acting-work-clause-counts
@@ -20,5 +20,4 @@ returns-in-Some-clause-counts g c = c.in-Some.ensures.reads
 
 pub returns-in-Some-clause-hinders : goal.returns-in-Some-clause-hinders
 returns-in-Some-clause-hinders g c =
-    let b = c.in-Some.ensures.finds in
-    (M.low (g.W.World.meaning c.args.world.now) c.args.work.now c.acting.result.now c.requires.work c.acting.ensures c.if-acting-work.false, b.less, b.rises, b.last, b.own, b.there)
+    (M.low (g.W.World.meaning c.args.world.now) c.args.work.now c.acting.result.now c.requires.work c.acting.ensures c.if-acting-work.false, c.in-Some.ensures.finds)

@@ -3,10 +3,16 @@ use Rattle.sd_cpu.specs.Seeking.{CanFetch, Fetches}
 use Rattle.sd_cpu.proofs.seeking.fetch.Goals as goal
 
 pub take_home-requires-clause-can : goal.take_home-requires-clause-can
-take_home-requires-clause-can g c = subst (CanFetch _) c.in-Home.is c.requires.can
+take_home-requires-clause-can g c = (subst (CanFetch _) c.in-Home.is c.requires.can).0
+
+pub take_home-requires-clause-few : goal.take_home-requires-clause-few
+take_home-requires-clause-few g c = (subst (CanFetch _) c.in-Home.is c.requires.can).1
 
 pub take_thread-requires-clause-can : goal.take_thread-requires-clause-can
-take_thread-requires-clause-can g c = subst (CanFetch _) c.in-Thread.is c.requires.can
+take_thread-requires-clause-can g c = (subst (CanFetch _) c.in-Thread.is c.requires.can).0
+
+pub take_thread-requires-clause-few : goal.take_thread-requires-clause-few
+take_thread-requires-clause-few g c = (subst (CanFetch _) c.in-Thread.is c.requires.can).1
 
 pub unreachable-requires : goal.unreachable-requires
 unreachable-requires g c = subst (CanFetch _) c.in-Actor.is c.requires.can

@@ -1,12 +1,10 @@
-use Rattle.sd_hand_tests.proofs.CallLemmas.{noted_counts, noted_finds, noted_good}
+use Rattle.sd_world.proofs.WorldLemmas.{counts_same}
+use Rattle.sd_hand_tests.specs.Hostile.{hostile_meaning}
+use Rattle.sd_hand_tests.proofs.CallLemmas.{finds_behind}
 use Rattle.sd_hand_tests.proofs.turns.HostileWorldWorld.behind.Goals as goal
 
-pub returns-clause-good : goal.returns-clause-good
-returns-clause-good c = noted_good c.args.self.now c.find_behind.new.self c.find_behind.result c.find_behind.ensures.notes.0 c.requires.good
-
 pub returns-clause-reads : goal.returns-clause-reads
-returns-clause-reads c = noted_counts c.args.self.now c.find_behind.new.self c.find_behind.result c.find_behind.ensures.notes.0 c.find_behind.ensures.notes.1
+returns-clause-reads c = counts_same (hostile_meaning c.args.self.now)
 
 pub returns-clause-finds : goal.returns-clause-finds
-returns-clause-finds c =
-    noted_finds c.args.self.now c.find_behind.new.self c.find_behind.result c.find_behind.ensures.notes.0 c.requires.good c.find_behind.ensures.notes.1 c.find_behind.ensures.finds
+returns-clause-finds c = finds_behind c.args.self.now c.find_behind.result c.requires.good c.find_behind.ensures

@@ -2,10 +2,10 @@ use Rattle.std.proofs.Common.{◌≡◌, ◌++◌, ◌∷◌, [], length, refl, 
 use Rattle.std.proofs.lemmas.List.{append-nil}
 use Rattle.sd_world.specs.declared.plain.PlainWorld.{PlainWorld}
 use Rattle.sd_world.specs.Entries.{CanEnter, Enters}
-use Rattle.sd_world.specs.Plain.{last_of}
 use Rattle.sd_world.specs.Worlds.{CanCommit}
 use Rattle.sd_world.proofs.WorldLemmas.{begins_same}
 use Rattle.sd_hand_tests.specs.Hostile.{hostile_meaning}
+use Rattle.sd_hand_tests.proofs.CallLemmas.{unshared}
 use Rattle.sd_hand_tests.proofs.HostileLemmas.{entered, may_enter, same_cpu}
 use Rattle.sd_hand_tests.proofs.turns.HostileWorldWorld.commit.Goals as goal
 
@@ -52,10 +52,12 @@ returns-clause-commits c =
         after = ([], log ∙ sym (append-nil _));
         after_still = λ e. log;
       };
-      quiet = record { stops = refl; reads = ap (λ (p : PlainWorld). p.reads) rest; last = ap (λ (p : PlainWorld). last_of p.last) rest };
+      quiet = record { stops = refl; notes = refl; misses = refl };
       table = refl;
       work = ap (λ (p : PlainWorld). p.work.now) rest;
       alone = refl;
       all = refl;
       cpu = same_cpu x near c.args.event c.args.hints i.actors.items i.entries.items c.requires.good (may_enter x c.args.event c.args.hints c.requires.good own) made;
+      held = made.has;
+      unhinted = unshared x;
     }

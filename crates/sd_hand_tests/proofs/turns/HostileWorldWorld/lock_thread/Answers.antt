@@ -1,5 +1,5 @@
 use Rattle.std.proofs.Common.{Some, sym, ap, ◌∙◌}
-use Rattle.sd_hand_tests.proofs.CallLemmas.{call_good, gains, home_listed, may_take, may_take_home, stop_good, stopped}
+use Rattle.sd_hand_tests.proofs.CallLemmas.{call_good, gets, home_listed, may_take, may_take_home, planned, stop_good, stopped, unshared}
 use Rattle.sd_hand_tests.proofs.HostileLemmas.{fetched_good}
 use Rattle.sd_hand_tests.proofs.PlanLemmas.{moves_apart}
 use Rattle.sd_hand_tests.proofs.turns.HostileWorldWorld.lock_thread.Goals as goal
@@ -15,7 +15,8 @@ pub returns-in-Some-Busy-clause-good : goal.returns-in-Some-Busy-clause-good
 returns-in-Some-Busy-clause-good c = stop_good c.args.self.now c.next_trouble.new.self c.stop.new.self _ c.next_trouble.ensures.counts c.stop.ensures.stops c.requires.good
 
 pub returns-in-Some-Busy-clause-locks : goal.returns-in-Some-Busy-clause-locks
-returns-in-Some-Busy-clause-locks c = stopped c.args.self.now c.next_trouble.new.self c.stop.new.self _ c.next_trouble.ensures.counts c.stop.ensures.stops c.stop.ensures.rises
+returns-in-Some-Busy-clause-locks c =
+    (stopped c.args.self.now c.next_trouble.new.self c.stop.new.self _ c.next_trouble.ensures.counts c.stop.ensures.stops c.stop.ensures.rises, unshared c.args.self.now, unshared c.args.self.now)
 
 pub returns-in-Some-Moved-clause-good : goal.returns-in-Some-Moved-clause-good
 returns-in-Some-Moved-clause-good c = stop_good c.args.self.now c.next_trouble.new.self c.stop-in-Some-Moved.new.self _ c.next_trouble.ensures.counts c.stop-in-Some-Moved.ensures.stops c.requires.good
@@ -24,6 +25,7 @@ pub returns-in-Some-Moved-clause-locks : goal.returns-in-Some-Moved-clause-locks
 returns-in-Some-Moved-clause-locks c = (
   stopped c.args.self.now c.next_trouble.new.self c.stop-in-Some-Moved.new.self _ c.next_trouble.ensures.counts c.stop-in-Some-Moved.ensures.stops c.stop-in-Some-Moved.ensures.rises,
   moves_apart c.args.self.now.plan.items _ c.in-Some-Moved.from c.in-Some-Moved.to c.requires.good.possible (sym c.next_trouble.ensures.planned ∙ (c.in-Some-Moved.is ∙ ap Some c.in-Some-Moved.field-0-is)),
+  unshared c.args.self.now,
 )
 
 pub returns-in_default-clause-good : goal.returns-in_default-clause-good
@@ -39,5 +41,15 @@ returns-in_default-clause-locks c =
       home,
       same,
       home_listed x y c.fetch.new.self _ c.args.t c.home_with-home.result home c.next_trouble.ensures.counts c.home_with-home.ensures same moves,
-      gains x y c.fetch.new.self _ home c.next_trouble.ensures.counts moves,
+      gets x y c.fetch.new.self _ home c.next_trouble.ensures.counts moves,
+      unshared x,
     )
+
+pub returns-in-Some-Busy-clause-planned : goal.returns-in-Some-Busy-clause-planned
+returns-in-Some-Busy-clause-planned c =
+    planned c.args.self.now.plan.items c.next_trouble.new.self c.stop.new.self c.stop.ensures.stops _ (sym c.next_trouble.ensures.planned ∙ (c.in-Some-Busy.is ∙ ap Some c.in-Some-Busy.field-0-is))
+
+pub returns-in-Some-Moved-clause-planned : goal.returns-in-Some-Moved-clause-planned
+returns-in-Some-Moved-clause-planned c =
+    planned c.args.self.now.plan.items c.next_trouble.new.self c.stop-in-Some-Moved.new.self c.stop-in-Some-Moved.ensures.stops _
+    (sym c.next_trouble.ensures.planned ∙ (c.in-Some-Moved.is ∙ ap Some c.in-Some-Moved.field-0-is))

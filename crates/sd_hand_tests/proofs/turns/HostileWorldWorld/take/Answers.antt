@@ -1,4 +1,5 @@
-use Rattle.sd_hand_tests.proofs.CallLemmas.{call_good, gains, may_take, stop_good, stopped}
+use Rattle.std.proofs.Common.{Some, sym, ap, ◌∙◌}
+use Rattle.sd_hand_tests.proofs.CallLemmas.{call_good, gets, may_take, planned, stop_good, stopped, unshared}
 use Rattle.sd_hand_tests.proofs.HostileLemmas.{fetched_good}
 use Rattle.sd_hand_tests.proofs.turns.HostileWorldWorld.take.Goals as goal
 
@@ -12,7 +13,7 @@ pub returns-in-Some-Busy-clause-good : goal.returns-in-Some-Busy-clause-good
 returns-in-Some-Busy-clause-good c = stop_good c.args.self.now c.next_trouble.new.self c.stop.new.self _ c.next_trouble.ensures.counts c.stop.ensures.stops c.requires.good
 
 pub returns-in-Some-Busy-clause-takes : goal.returns-in-Some-Busy-clause-takes
-returns-in-Some-Busy-clause-takes c = stopped c.args.self.now c.next_trouble.new.self c.stop.new.self _ c.next_trouble.ensures.counts c.stop.ensures.stops c.stop.ensures.rises
+returns-in-Some-Busy-clause-takes c = (stopped c.args.self.now c.next_trouble.new.self c.stop.new.self _ c.next_trouble.ensures.counts c.stop.ensures.stops c.stop.ensures.rises, unshared c.args.self.now)
 
 pub returns-in_default-clause-good : goal.returns-in_default-clause-good
 returns-in_default-clause-good c =
@@ -22,4 +23,8 @@ returns-in_default-clause-good c =
 pub returns-in_default-clause-takes : goal.returns-in_default-clause-takes
 returns-in_default-clause-takes c =
     let (home, same, moves) = c.fetch.ensures.moves in
-    (home, same, gains c.args.self.now c.next_trouble.new.self c.fetch.new.self _ home c.next_trouble.ensures.counts moves)
+    (home, same, gets c.args.self.now c.next_trouble.new.self c.fetch.new.self _ home c.next_trouble.ensures.counts moves)
+
+pub returns-in-Some-Busy-clause-planned : goal.returns-in-Some-Busy-clause-planned
+returns-in-Some-Busy-clause-planned c =
+    planned c.args.self.now.plan.items c.next_trouble.new.self c.stop.new.self c.stop.ensures.stops _ (sym c.next_trouble.ensures.planned ∙ (c.in-Some-Busy.is ∙ ap Some c.in-Some-Busy.field-0-is))

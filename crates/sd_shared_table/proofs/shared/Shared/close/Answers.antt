@@ -1,4 +1,4 @@
-use Rattle.std.proofs.Common.{◌≡◌, length, map, Some, None, refl, sym, ap, ◌∙◌, subst, arith}
+use Rattle.std.proofs.Common.{◌≡◌, length, map, Some, refl, sym, ap, ◌∙◌, subst, arith}
 use Rattle.std.specs.Prelude.{vec_len}
 use Rattle.std.proofs.lemmas.Option.{slice_get-get_or}
 use Rattle.sd_world.specs.Plain.{Stands}
@@ -53,7 +53,7 @@ returns-clause-stands c =
     let entries = c.in_ok-entries.ensures ended.entries (logs_of w t seats g x c.requires.seats is ended) (sym ended.count) in
     let a = c.index-actor.result.now in
     let first = slice_get-get_or g.actors.items 0 a (some_actor w t seats g x c.requires.seats is ended) ∙ ap Some (sym c.index-actor.ensures) in
-    let p : PlainWorld = record { work = c.args.work; acting = record { hand = c.of.result; actor = a }; actors = g.actors; entries = c.in_ok-entries.entries; reads = 0; last = None } in
+    let p : PlainWorld = record { work = c.args.work; acting = record { hand = c.of.result; actor = a }; actors = g.actors; entries = c.in_ok-entries.entries } in
     subst (λ v. Stands v p) (sym c.requires.work) (stands_again w t seats g x c.requires.seats is ended p entries c.of.ensures refl first)
 
 pub returns-clause-work : goal.returns-clause-work

@@ -92,5 +92,18 @@ returns-clause-stays c =
     F.stays_given w _ s s1 c.put_down-home.result f low (record { place = c.lay.new.place; acting = s1.acting; order = s1.order; log = s1.log })
     (c.lay.ensures.table ∙ (c.exchange.ensures.0 ∙ (ap (λ p. p.table_id) low.place ∙ f.table))) (c.lay.ensures.told ∙ (λ j. (Works (giving (d0 j) (e j)), r0 j))) refl refl
 
+pub returns-clause-quiet : goal.returns-clause-quiet
+returns-clause-quiet c =
+    let w = work_of c.args.self.now in
+    let s = c.args.seat.now in
+    let f = c.requires.fits in
+    let s1 = c.put_down-home.new.self in
+    let low = c.put_down-home.ensures.lowered in
+    let e = c.index-index.ensures.index ∙ ap (index_of (sizes w)) c.id.ensures in
+    let e3 = c.exchange.ensures.3 in
+    let d0 = ap (λ m. desk_of m.0) e3 ∙ ap (λ p. desk_of p.me.0) low.place in
+    let r0 = ap (λ m. rest m.1) e3 ∙ ap (λ m. rest m.1) (F.lowered_view w _ s s1 c.put_down-home.result f low) in
+    F.quiet_given w _ s s1 c.put_down-home.result f low (record { place = c.lay.new.place; acting = s1.acting; order = s1.order; log = s1.log }) (c.lay.ensures.told ∙ (λ j. (Works (giving (d0 j) (e j)), r0 j)))
+
 pub returns-clause-less : goal.returns-clause-less
 returns-clause-less c = c.put_down-home.ensures.lowered.count

@@ -3,12 +3,11 @@ use Rattle.std.proofs.lemmas.List.{take_more}
 use Rattle.std.proofs.lemmas.List.Elements.{Contains-get_or}
 use Rattle.sd_types.specs.declared.numbers.CpuId.{CpuId}
 use Rattle.sd_world.specs.Worlds.{AllHinted}
-use Rattle.sd_world.specs.Plain.{last_of}
-use Rattle.sd_world.proofs.WorldLemmas.{stays_then}
+use Rattle.sd_world.proofs.WorldLemmas.{quiet_then, stays_then}
 use Rattle.sd_shared_table.specs.Seats.{work_of}
 use Rattle.sd_threads.specs.declared.world.TableWorld.{TableWorld}
 use Rattle.sd_threads.specs.Tables.{world_meaning}
-use Rattle.sd_threads.proofs.AsWorld.{hinted_more, hinted_still, stays_as}
+use Rattle.sd_threads.proofs.AsWorld.{hinted_more, hinted_still, quiet_as, stays_as}
 use Rattle.sd_threads.proofs.world.TableWorld.numbers.Goals as goal
 
 pub hint-requires-clause-cpu : goal.hint-requires-clause-cpu
@@ -26,12 +25,12 @@ loop-d-preserved c =
     let at = c.loop-d.d-index in
     let cpus = c.args.cpus.now in
     let x : CpuId = get_or cpus at (record { 0 = 0 }) in
-    let st = stays_as (work_of y.shared.now) y.seat z.seat y.stops y.reads y.stops y.reads (last_of y.last) (last_of y.last) h.stays in
+    let st = stays_as (work_of y.shared.now) y.seat z.seat y.stops y.stops h.stays in
     record {
       good = c.hint.ensures.fits;
       table = i.table;
       stays = stays_then (world_meaning c.args.self.now) (world_meaning y) (world_meaning z) i.stays st;
-      quiet = record { stops = i.quiet.stops; reads = i.quiet.reads; last = i.quiet.last };
+      quiet = quiet_then (world_meaning c.args.self.now) (world_meaning y) (world_meaning z) i.quiet (quiet_as (work_of y.shared.now) y.seat z.seat y.stops h.quiet);
       acting = h.acting ∙ i.acting;
       many = ap length c.push.ensures.items ∙ (length-append _ _ ∙ ap (λ n. n + 1) i.many);
       hinted = subst (λ l. AllHinted (world_meaning z) c.args.which (take (at + 1) cpus) l) (sym c.push.ensures.items)

@@ -17,3 +17,6 @@ returns-clause-entries c = c.enter.ensures.entries
 
 pub returns-clause-cpu : goal.returns-clause-cpu
 returns-clause-cpu c = same_actor c.args.self.now.acting c.enter.new.acting c.enter.ensures.has
+
+pub returns-clause-has : goal.returns-clause-has
+returns-clause-has c = c.enter.ensures.has

@@ -1,4 +1,4 @@
-use Rattle.std.proofs.Common.{◌≡◌, None, length, slice_get, Some, refl, sym, ap, ◌∙◌, subst, arith}
+use Rattle.std.proofs.Common.{◌≡◌, length, slice_get, Some, refl, sym, ap, ◌∙◌, subst, arith}
 use Rattle.std.proofs.lemmas.Option.{slice_get-get_or}
 use Rattle.sd_hand.specs.OneHome.{AreAllHomes}
 use Rattle.std.specs.Prelude.{vec_len}
@@ -24,5 +24,5 @@ returns-clause-stands c =
     let first : slice_get actors 0 ≡ Some c.index-actor.result.now =
     slice_get-get_or actors 0 c.index-actor.result.now (some_cpus w s es c.requires.run c.requires.state actors c.in_ok-actors.ensures) ∙ ap Some (sym c.index-actor.ensures) in
     stands_begun w s es c.requires.run c.requires.state
-    (record { work = c.args.work; reads = 0; last = None; acting = record { hand = c.into_hand.result; actor = c.index-actor.result.now }; actors = c.in_ok-actors.actors; entries = c.args.entries })
+    (record { work = c.args.work; acting = record { hand = c.into_hand.result; actor = c.index-actor.result.now }; actors = c.in_ok-actors.actors; entries = c.args.entries })
     c.in_ok-homes.homes.slots c.requires.stood refl (subst (λ n. AreAllHomes n s c.in_ok-homes.homes.slots) number c.in_ok-homes.ensures.all) c.into_hand.ensures c.in_ok-actors.ensures first

@@ -1,14 +1,15 @@
 use Rattle.std.proofs.Common.{◌≡◌, ◌++◌, ◌∷◌, [], length, refl, sym, ap, ◌∙◌, subst}
+use Rattle.std.proofs.lemmas.Bool.{false≢true}
 use Rattle.std.proofs.lemmas.List.{append-nil}
 use Rattle.sd_types.specs.declared.works.Work.{Work}
-use Rattle.sd_world.specs.Plain.{Stands, last_of}
+use Rattle.sd_world.specs.Plain.{Stands}
 use Rattle.sd_world.proofs.WorldLemmas.{begins_same, plain_good}
 use Rattle.sd_world.proofs.turns.PlainWorldWorld.commit.Goals as goal
 
 pub returns-clause-good : goal.returns-clause-good
 returns-clause-good c =
     let y = c.make.new.self in
-    plain_good y (subst (λ (w : Work). Stands w y) (c.requires.can.work ∙ sym (ap (λ b. b.now) c.make.ensures.rest.0)) c.make.ensures.stands)
+    plain_good y (subst (λ (w : Work). Stands w y) (c.requires.can.work ∙ sym (ap (λ b. b.now) c.make.ensures.work)) c.make.ensures.stands)
 
 pub returns-clause-commits : goal.returns-clause-commits
 returns-clause-commits c =
@@ -27,10 +28,12 @@ returns-clause-commits c =
         after = ([], log ∙ sym (append-nil _));
         after_still = λ e. log;
       };
-      quiet = record { stops = refl; reads = c.make.ensures.rest.1; last = ap last_of c.make.ensures.rest.2 };
+      quiet = record { stops = refl; notes = refl; misses = refl };
       table = refl;
-      work = ap (λ b. b.now) c.make.ensures.rest.0;
+      work = ap (λ b. b.now) c.make.ensures.work;
       alone = refl;
       all = refl;
       cpu = c.make.ensures.cpu;
+      held = c.make.ensures.has;
+      unhinted = λ e. absurd (false≢true (sym e));
     }
