@@ -4,8 +4,7 @@
 use crate::given::{Judged, judge};
 use crate::shown::{begun, entry, take_in};
 use sd_report::{report, sheet};
-use sd_state::Place;
-use sd_stretches::{ByThread, History};
+use sd_stretches::{ByThread, Doing, History};
 use sd_types::{ChanId, CpuId, Event, LockId, ThreadId, Work};
 use std::alloc::{AllocError, Global};
 
@@ -49,9 +48,9 @@ const M: LockId = LockId(0);
 
 const S: ChanId = ChanId(0);
 
-/// Each event, with the count of ticks and the place of the thread after it.
-fn made(i: u8) -> (Event, u32, Place) {
-    let running = Place::Running(CpuId(0));
+/// Each event, with the count of ticks and what the thread does after it.
+fn made(i: u8) -> (Event, u32, Doing) {
+    let running = Doing::Running(CpuId(0));
     match i {
         0 => (Event::Dispatch { t: A, p: 60 }, 0, running),
         1 => (Event::Enter { t: A, l: M }, 0, running),
@@ -59,15 +58,15 @@ fn made(i: u8) -> (Event, u32, Place) {
         3 => (Event::Exit { t: A, l: M }, 1, running),
         4 => (Event::SemaP { t: A, k: S }, 1, running),
         5 => (Event::Tick { t: A }, 2, running),
-        6 => (Event::SemaWait { t: A, k: S }, 2, Place::Asleep(S, 0)),
-        _ => (Event::Idle, 3, Place::Asleep(S, 0)),
+        6 => (Event::SemaWait { t: A, k: S }, 2, Doing::Asleep(S)),
+        _ => (Event::Idle, 3, Doing::Asleep(S)),
     }
 }
 
-fn take_eight(alloc: Global, history: &mut History) -> Result<(), AllocError> {
+fn take_eight(history: &mut History) -> Result<(), AllocError> {
     for i in 0..8 {
-        let (event, count, place) = made(i);
-        take_in(alloc, history, &entry(u64::from(i), event), place, count)?;
+        let (event, count, doing) = made(i);
+        take_in(history, &entry(u64::from(i), event), doing, count)?;
     }
     Ok(())
 }
@@ -102,7 +101,7 @@ fn wrong_behind_eight(
     work: &Work,
     mut history: History,
 ) -> Result<Option<&'static str>, AllocError> {
-    take_eight(alloc, &mut history)?;
+    take_eight(&mut history)?;
     wrong_form(alloc, work, &history.by_thread(alloc)?)
 }
 

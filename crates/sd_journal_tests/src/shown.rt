@@ -2,8 +2,8 @@
 
 use crate::given::{in_place, is_so, state};
 use sd_state::{CpuState, Place, State};
-use sd_stretches::{ByThread, History, Stretch, levels, stretches};
-use sd_types::{CpuId, Duty, Entry, Event, SetId, ThreadId};
+use sd_stretches::{ByThread, Doing, Glimpse, History, Sight, Stretch, levels, stretches};
+use sd_types::{Class, CpuId, Duty, Entry, Event, SetId, ThreadId};
 use std::alloc::{AllocError, Global};
 
 /// A processor of the default partition that has counted so many ticks.
@@ -20,7 +20,7 @@ fn cpu_at(count: u32) -> CpuState {
 }
 
 /// A state of one processor and one thread.
-pub(crate) fn at_tick(alloc: Global, place: Place, count: u32) -> Result<State, AllocError> {
+fn at_tick(alloc: Global, place: Place, count: u32) -> Result<State, AllocError> {
     let threads = Vec::from_array(alloc, [in_place(place)])?;
     let cpus = Vec::from_array(alloc, [cpu_at(count)])?;
     Ok(state(alloc, threads, Vec::new(alloc), cpus))
@@ -41,35 +41,44 @@ pub(crate) fn begun(alloc: Global) -> Result<History, AllocError> {
     History::new(alloc, &s)
 }
 
-/// Takes the next entry in, behind which the thread stands in this place and the processor has counted so many ticks. A history of
-/// 99 entries stays as it is.
+/// The thread is seen to do this, at its own priority, and the processor has counted so many ticks.
+fn seen(doing: Doing, tick: u32) -> Glimpse {
+    Glimpse {
+        tick,
+        sight: Some(Sight {
+            doing,
+            class: Class::Sys,
+            priority: 60,
+            inherited: false,
+        }),
+        greatest: None,
+        above_base: false,
+        waker: None,
+        owner: None,
+    }
+}
+
+/// Takes the next entry in, after which the thread does this and the processor has counted so many ticks. A history of 99 entries
+/// stays as it is.
 pub(crate) fn take_in(
-    alloc: Global,
     history: &mut History,
     entry: &Entry,
-    place: Place,
+    doing: Doing,
     count: u32,
 ) -> Result<(), AllocError> {
     if history.entries >= 99 {
         return Ok(());
     }
-    let s = at_tick(alloc, place, count)?;
-    history.add(&s, entry)
+    history.add(&seen(doing, count), entry)
 }
 
-fn take_three(alloc: Global, history: &mut History) -> Result<(), AllocError> {
+fn take_three(history: &mut History) -> Result<(), AllocError> {
     let t = ThreadId(0);
-    let running = Place::Running(CpuId(0));
+    let running = Doing::Running(CpuId(0));
     let dispatch = entry(0, Event::Dispatch { t, p: 60 });
-    take_in(alloc, history, &dispatch, running, 0)?;
-    take_in(alloc, history, &entry(1, Event::Tick { t }), running, 1)?;
-    take_in(
-        alloc,
-        history,
-        &entry(2, Event::Done { t }),
-        Place::Ended,
-        1,
-    )
+    take_in(history, &dispatch, running, 0)?;
+    take_in(history, &entry(1, Event::Tick { t }), running, 1)?;
+    take_in(history, &entry(2, Event::Done { t }), Doing::Ended, 1)
 }
 
 /// The first and last state of each stretch, and the ticks from which and to which it lasts.
@@ -103,7 +112,7 @@ fn is_shown(alloc: Global, history: &ByThread) -> Result<bool, AllocError> {
 
 fn runs_for_a_tick(alloc: Global) -> Result<bool, AllocError> {
     let mut history = begun(alloc)?;
-    take_three(alloc, &mut history)?;
+    take_three(&mut history)?;
     is_shown(alloc, &history.by_thread(alloc)?)
 }
 

@@ -1,4 +1,5 @@
 pub mod Charged
+pub mod CpuLemmas
 pub mod DeedLemmas
 pub mod DelayLemmas
 pub mod Follow

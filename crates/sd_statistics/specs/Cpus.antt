@@ -1,6 +1,6 @@
 -- The rows of processors.
 -- Source: Solaris Internals (dispatcher statistics); the rows are this project's own.
-use Rattle.std.specs.Prelude.{ℕ, Bool, true, false, ◌&&◌, ◌==◌, List, ◌++◌, count_by}
+use Rattle.std.specs.Prelude.{ℕ, Bool, true, false, ◌&&◌, ◌==◌, List, ◌++◌, count_by, filter}
 use Rattle.std.specs.List.{flat_map, range_with_len}
 use Rattle.sd_types.specs.declared.events.Event.{Event}
 use Rattle.sd_types.specs.declared.events.Event.TheVariants.{Tick, Spin, Idle, Dispatch, Steal, Preempt, Away}
@@ -24,6 +24,10 @@ is_deed Steals (Steal v t p) = true
 is_deed Preempts (Preempt t end) = true
 is_deed Preempts (Away t c) = true
 is_deed _ _ = false
+
+-- the entries of processor c
+abbrev pub cpu_entries : ℕ → List Happening → List Happening
+cpu_entries c xs = filter (λ x. x.cpu.0 == c) xs
 
 -- how many entries of processor c are of the kind
 abbrev pub deeds : Deed → ℕ → List Happening → ℕ

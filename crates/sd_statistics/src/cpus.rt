@@ -1,8 +1,8 @@
 //! The rows of processors: how often each of them does what.
 
-ghost use Rattle.std.specs.Prelude.{◌≡◌, ◌++◌, ◌&&◌, ◌==◌, IfOk, OnOk, count_by};
+ghost use Rattle.std.specs.Prelude.{◌≡◌, ◌++◌, ◌∷◌, [], ◌&&◌, ◌==◌, IfOk, OnOk, count_by};
 ghost use Rattle.std.specs.List.{flat_map, range_with_len};
-ghost use Rattle.sd_statistics.specs.Cpus.{cpu_part, cpu_rows, deed_figures, deed_row, deeds, is_deed};
+ghost use Rattle.sd_statistics.specs.Cpus.{cpu_entries, cpu_part, cpu_rows, deed_figures, deed_row, deeds, is_deed};
 
 use crate::rows::{Figures, Measure, Row, Subject, count_figures, push_row, tick_figures};
 use sd_stretches::{Happening, History};
@@ -33,6 +33,30 @@ fn is_deed(deed: Deed, event: &Event) -> bool
         (Deed::Preempts, Event::Preempt { .. } | Event::Away { .. }) => true,
         _ => false,
     }
+}
+
+fn push_own(c: u16, x: &Happening, own: &mut Vec<Happening>) -> Result<(), AllocError>
+    ensures { OnOk result (own.new.items ≡ own.old.items ++ cpu_entries c (x.now ∷ [])) }
+{
+    if x.cpu.0 == c {
+        own.push(*x)?;
+    }
+    Ok(())
+}
+
+// The entries of one processor.
+fn cpu_entries(
+    alloc: Global,
+    c: u16,
+    happenings: &[Happening],
+) -> Result<Vec<Happening>, AllocError>
+    ensures { IfOk result (λ v. v.items ≡ cpu_entries c happenings.now) }
+{
+    let mut own = Vec::new(alloc);
+    for x in happenings {
+        push_own(c, x, &mut own)?;
+    }
+    Ok(own)
 }
 
 // How many entries of processor `c` are of the kind.
@@ -74,7 +98,7 @@ fn push_deed(
 }
 
 #[tactic(auto, unfolding(crate::specs::Cpus::cpu_part))]
-fn push_cpu(c: u16, happenings: &[Happening], out: &mut Vec<Row>) -> Result<(), AllocError>
+fn push_deeds(c: u16, happenings: &[Happening], out: &mut Vec<Row>) -> Result<(), AllocError>
     ensures { OnOk result (out.new.items ≡ out.old.items ++ cpu_part happenings.now c) }
 {
     push_deed(Deed::Runs, c, happenings, out)?;
@@ -83,6 +107,19 @@ fn push_cpu(c: u16, happenings: &[Happening], out: &mut Vec<Row>) -> Result<(), 
     push_deed(Deed::Dispatches, c, happenings, out)?;
     push_deed(Deed::Steals, c, happenings, out)?;
     push_deed(Deed::Preempts, c, happenings, out)
+}
+
+// The rows of a processor. Its own entries are found once, since most are those of others.
+fn push_cpu(
+    alloc: Global,
+    c: u16,
+    happenings: &[Happening],
+    out: &mut Vec<Row>,
+) -> Result<(), AllocError>
+    ensures { OnOk result (out.new.items ≡ out.old.items ++ cpu_part happenings.now c) }
+{
+    let own = cpu_entries(alloc, c, happenings)?;
+    push_deeds(c, &own, out)
 }
 
 /// The rows of the processors of a run of the workload, of which this is the history: the ticks that each takes for a thread that
@@ -94,7 +131,7 @@ pub fn cpu_rows(alloc: Global, work: &Work, history: &History) -> Result<Vec<Row
 {
     let mut rows = Vec::new(alloc);
     for c in 0..work.cpus {
-        push_cpu(c, &history.happenings, &mut rows)?;
+        push_cpu(alloc, c, &history.happenings, &mut rows)?;
     }
     Ok(rows)
 }

@@ -390,8 +390,11 @@ fn all_pieces(alloc: Global, work: &Work, history: &ByThread) -> Result<Vec<Stre
 pub fn lock_rows(alloc: Global, work: &Work, history: &ByThread) -> Result<Vec<Row>, AllocError>
     ensures { IfOk result (λ v. v.items ≡ lock_rows work.now history.now) }
 {
-    let all = all_pieces(alloc, work, history)?;
     let mut rows = Vec::new(alloc);
+    if work.locks.items().is_empty() {
+        return Ok(rows);
+    }
+    let all = all_pieces(alloc, work, history)?;
     for l in 0..work.locks.items().len() {
         push_lock(alloc, work, history, &all, l as u16, &mut rows)?;
     }

@@ -140,7 +140,7 @@ fn push_delay_row(
     )
 }
 
-// The same, by its own wakeups alone.
+// The same, by its own wakeups alone where these stand apart.
 fn push_delays(
     alloc: Global,
     history: &ByThread,
@@ -150,8 +150,10 @@ fn push_delays(
 ) -> Result<(), AllocError>
     ensures { OnOk result (out.new.items ≡ out.old.items ++ delay_row t own.now history.now.wakeups.items) }
 {
-    let wakeups = history.wakeups_of(alloc, t)?;
-    push_delay_row(alloc, t, own, &wakeups, out)
+    match history.wakeup_row(t) {
+        Some(wakeups) => push_delay_row(alloc, t, own, wakeups, out),
+        None => push_delay_row(alloc, t, own, &history.history.wakeups, out),
+    }
 }
 
 // The row of its inherited priority.

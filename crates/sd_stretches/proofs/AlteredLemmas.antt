@@ -22,7 +22,7 @@ use Rattle.sd_machine.proofs.ShapeLemmas.{after_shape}
 use Rattle.sd_frames.proofs.Altering.{after_but}
 use Rattle.sd_stretches.specs.declared.changes.Load.{Load}
 use Rattle.sd_stretches.specs.declared.sights.Sight.{Sight}
-use Rattle.sd_stretches.specs.Altered.{AlikeBut, EventsAlterOneSight, last_count, load_by_sight, load_count, loads_by, one_moved, onsets_by, ranks_by, sights_by, with_sight}
+use Rattle.sd_stretches.specs.Altered.{AlikeBut, EventsAlterOneSight, last_count, load_by_sight, load_count, loads_by, one_moved, onsets_by, ranks_by, sight_among, sights_by, with_sight}
 use Rattle.sd_stretches.specs.Changes.{load_if, onset_if, onsets_between, rank_if, ranks_between}
 use Rattle.sd_stretches.specs.Histories.{loads_in, moment, over, tick_by, entry_before}
 use Rattle.sd_stretches.specs.Sights.{is_runnable, runnable, same_rank, same_truth, sight_of, sights_of}
@@ -89,7 +89,7 @@ quiet_rank : (u first tick : ℕ) (o : Option Sight) → rank_if u first tick o 
 quiet_rank u first tick None = refl
 quiet_rank u first tick (Some x) = rw (same_rank_self x) refl
 
-pub onsets_one : (o : Option ℕ) (first tick : ℕ) (old new : List Sight) → AlikeBut o old new → onsets_by o first tick old new ≡ onsets_between old new first tick
+pub onsets_one : (o : Option ℕ) (first tick : ℕ) (old new : List Sight) → AlikeBut o old new → onsets_by o first tick old (sight_among o new) ≡ onsets_between old new first tick
 unfolding onsets_between
 onsets_one None first tick old new a =
     sym (all_none (λ u. onset_if u first tick (slice_get old u) (slice_get new u)) 0 (length new)
@@ -99,7 +99,7 @@ onsets_one (Some t) first tick old new a =
     (λ u other. ap (λ x. onset_if u first tick (slice_get old u) x) (a.others u (λ is. other (some_is t u is))) ∙ quiet_onset u first tick (slice_get old u))
     (λ past. ap (λ x. onset_if t first tick (slice_get old t) x) (slice_get_past new t past)))
 
-pub ranks_one : (o : Option ℕ) (first tick : ℕ) (old new : List Sight) → AlikeBut o old new → ranks_by o first tick old new ≡ ranks_between old new first tick
+pub ranks_one : (o : Option ℕ) (first tick : ℕ) (old new : List Sight) → AlikeBut o old new → ranks_by o first tick old (sight_among o new) ≡ ranks_between old new first tick
 unfolding ranks_between
 ranks_one None first tick old new a =
     sym (all_none (λ u. rank_if u first tick (slice_get old u) (slice_get new u)) 0 (length new)
@@ -116,7 +116,7 @@ no_sight = sight_of no_thread
 read_or : (xs ys : List Sight) (i : ℕ) → slice_get xs i ≡ slice_get ys i → get_or xs i no_sight ≡ get_or ys i no_sight
 read_or xs ys i same = sym (unwrap_or-slice_get xs i no_sight) ∙ ap (λ o. unwrap_or o no_sight) same ∙ unwrap_or-slice_get ys i no_sight
 
-pub sights_one : (o : Option ℕ) (old new : List Sight) → AlikeBut o old new → sights_by o old new ≡ new
+pub sights_one : (o : Option ℕ) (old new : List Sight) → AlikeBut o old new → sights_by o old (sight_among o new) ≡ new
 sights_one None old new a = ext_get_or no_sight old new (sym a.many) (λ i inside. read_or old new i (sym (a.others i (none_some i))))
 sights_one (Some t) old new a = elim (cases_lt t (length new)) [
   | inl here ↦
@@ -156,7 +156,7 @@ load_same : (first tick : ℕ) (old new : List Sight) → old ≡ new → load_i
 load_same first tick old new same = let is = eq-eqb (runnable old) (runnable new) (ap runnable same) in rw is refl
 
 pub loads_one : (o : Option ℕ) (first tick : ℕ) (old new : List Sight) → AlikeBut o old new → length new ≤ 18446744073709551615
-    → loads_by (runnable old) o first tick old new ≡ load_if old new first tick
+    → loads_by (runnable old) o first tick old (sight_among o new) ≡ load_if old new first tick
 unfolding one_load
 loads_one None first tick old new a fits = sym (load_same first tick old new (sights_one None old new a))
 loads_one (Some t) first tick old new a fits = elim (cases_lt t (length new)) [

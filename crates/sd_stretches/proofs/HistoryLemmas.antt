@@ -20,7 +20,7 @@ use Rattle.sd_stretches.specs.declared.histories.History.{History}
 use Rattle.sd_machine.specs.Events.{after}
 use Rattle.sd_stretches.specs.Sights.{runnable, sight_of, sights_of}
 use Rattle.sd_stretches.specs.Changes.{onsets_between, ranks_between, load_if, hand_overs_of, happenings_of, wakeups_of}
-use Rattle.sd_stretches.specs.Altered.{AlikeBut, last_count, loads_by, onsets_by, ranks_by, sights_by}
+use Rattle.sd_stretches.specs.Altered.{AlikeBut, last_count, loads_by, onsets_by, ranks_by, sight_among, sights_by}
 use Rattle.sd_stretches.proofs.AlteredLemmas.{alter_one, last_over, loads_one, onsets_one, ranks_one, sights_one}
 use Rattle.sd_stretches.specs.Histories.{Moment, moment, over, onsets_in, ranks_in, loads_in, hand_overs_in, wakeups_in, happenings_in, IsHistory}
 
@@ -136,29 +136,39 @@ few_sights w es =
     let few = w.most_threads in
     omega (arith, many, fits, few)
 
--- the same from the sights of the one thread that the entry may have altered
+-- the sights that a history has are those of the next state, but for one thread
+alike_next : (w : Work) (es : List Entry) (e : Entry) (h : History) → IsHistory w es h → AlikeBut (altered e.event) h.sights.items (sights_of (final w (opening w) (es ++ e ∷ [])))
+alike_next w es e h is =
+    let o = altered e.event in
+    let s = final w (opening w) es in
+    subst (λ xs. AlikeBut o xs (sights_of (final w (opening w) (es ++ e ∷ [])))) (sym is.sights)
+    (subst (λ r. AlikeBut o (sights_of s) (sights_of r)) (sym (final-push w (opening w) es e)) (alter_one w s e.number e.cpu e.event))
+
+-- the next sights, from that of the one thread that the entry may have altered
+pub sights_next : (w : Work) (es : List Entry) (e : Entry) (h : History) → IsHistory w es h
+    → sights_by (altered e.event) h.sights.items (sight_among (altered e.event) (sights_of (final w (opening w) (es ++ e ∷ [])))) ≡ sights_of (final w (opening w) (es ++ e ∷ []))
+sights_next w es e h is = sights_one (altered e.event) h.sights.items (sights_of (final w (opening w) (es ++ e ∷ []))) (alike_next w es e h is)
+
+-- one entry more, from the sight of that thread
 pub history_by : (w : Work) (es : List Entry) (e : Entry) (s : State) (old new : History) → s ≡ final w (opening w) (es ++ e ∷ []) → IsHistory w es old
-    → new.onsets.items ≡ old.onsets.items ++ onsets_by (altered e.event) (old.entries + 1) (cpu_of s e.cpu.0).count old.sights.items (sights_of s)
-    → new.ranks.items ≡ old.ranks.items ++ ranks_by (altered e.event) (old.entries + 1) (cpu_of s e.cpu.0).count old.sights.items (sights_of s)
-    → new.loads.items ≡ old.loads.items ++ loads_by (last_count old.loads.items) (altered e.event) (old.entries + 1) (cpu_of s e.cpu.0).count old.sights.items (sights_of s)
+    → new.onsets.items ≡ old.onsets.items ++ onsets_by (altered e.event) (old.entries + 1) (cpu_of s e.cpu.0).count old.sights.items (sight_among (altered e.event) (sights_of s))
+    → new.ranks.items ≡ old.ranks.items ++ ranks_by (altered e.event) (old.entries + 1) (cpu_of s e.cpu.0).count old.sights.items (sight_among (altered e.event) (sights_of s))
+    → new.loads.items ≡ old.loads.items ++ loads_by (last_count old.loads.items) (altered e.event) (old.entries + 1) (cpu_of s e.cpu.0).count old.sights.items (sight_among (altered e.event) (sights_of s))
     → new.hand_overs.items ≡ old.hand_overs.items ++ hand_overs_of s (Some e)
     → new.wakeups.items ≡ old.wakeups.items ++ wakeups_of s (Some e)
     → new.happenings.items ≡ old.happenings.items ++ happenings_of s (Some e)
-    → new.sights.items ≡ sights_by (altered e.event) old.sights.items (sights_of s) → new.entries ≡ old.entries + 1
+    → new.sights.items ≡ sights_of s → new.entries ≡ old.entries + 1
     → IsHistory w (es ++ e ∷ []) new
 history_by w es e s old new state h onsets ranks loads hand_overs wakeups happenings sights entries =
     let o = altered e.event in
     let first = old.entries + 1 in
     let tick = (cpu_of s e.cpu.0).count in
     let before : List Sight = old.sights.items in
-    let step : s ≡ after w (final w (opening w) es) e.number e.cpu e.event = state ∙ final-push w (opening w) es e in
-    let alike : AlikeBut o before (sights_of s) =
-    subst (λ xs. AlikeBut o xs (sights_of s)) (sym h.sights)
-    (subst (λ r. AlikeBut o (sights_of (final w (opening w) es)) (sights_of r)) (sym step) (alter_one w (final w (opening w) es) e.number e.cpu e.event)) in
+    let alike : AlikeBut o before (sights_of s) = subst (λ r. AlikeBut o before (sights_of r)) (sym state) (alike_next w es e old h) in
     let count : last_count old.loads.items ≡ runnable before = ap last_count h.loads ∙ last_over w es ∙ sym (ap runnable h.sights) in
     let few : length (sights_of s) ≤ 18446744073709551615 = subst (λ r. length (sights_of r) ≤ 18446744073709551615) (sym state) (few_sights w (es ++ e ∷ [])) in
     history_more w es e s old new state h
     (onsets ∙ ap (λ ys. old.onsets.items ++ ys) (onsets_one o first tick before (sights_of s) alike))
     (ranks ∙ ap (λ ys. old.ranks.items ++ ys) (ranks_one o first tick before (sights_of s) alike))
-    (loads ∙ ap (λ ys. old.loads.items ++ ys) (ap (λ m. loads_by m o first tick before (sights_of s)) count ∙ loads_one o first tick before (sights_of s) alike few))
-    hand_overs wakeups happenings (sights ∙ sights_one o before (sights_of s) alike) entries
+    (loads ∙ ap (λ ys. old.loads.items ++ ys) (ap (λ m. loads_by m o first tick before (sight_among o (sights_of s))) count ∙ loads_one o first tick before (sights_of s) alike few))
+    hand_overs wakeups happenings sights entries

@@ -1,5 +1,6 @@
 pub mod AlteredLemmas
 pub mod ExactLemmas
+pub mod GlimpseLemmas
 pub mod HistoryLemmas
 pub mod OrderLemmas
 pub mod PartLemmas

@@ -7,7 +7,7 @@ use Rattle.sd_stretches.specs.declared.sights.Doing.{Doing}
 use Rattle.sd_stretches.specs.declared.sights.Doing.TheVariants.{Running}
 use Rattle.sd_stretches.specs.declared.rows.Stretch.{Stretch}
 use Rattle.sd_stretches.specs.declared.spin_pieces.Spell.{Spell}
-use Rattle.sd_stretches.specs.SpinPieces.{before, cut, pieces_by, rest_after, spells_of, spun, Fills, PiecesFillStretches}
+use Rattle.sd_stretches.specs.SpinPieces.{before, cut, cut_all, pieces_by, rest_after, spells_of, spun, Fills, PiecesFillStretches}
 
 -- a piece behind which more follow
 pub cut_more : (c : CpuId) (x : Stretch) (s : Spell) (ss : List Spell) → nat_lt s.to x.to ≡ true → cut c x (s ∷ ss) ≡ (before x s ++ spun c x s ∷ []) ++ cut c (rest_after x s) ss
@@ -20,6 +20,17 @@ cut_more c x s ss more =
 pub cut_last : (c : CpuId) (x : Stretch) (s : Spell) (ss : List Spell) → nat_lt s.to x.to ≡ false → cut c x (s ∷ ss) ≡ before x s ++ spun c x s ∷ []
 unfolding cut
 cut_last c x s ss last = ap (λ b. before x s ++ spun c x s ∷ (if b then cut c (rest_after x s) ss else [])) last
+
+-- stretches that are cut nowhere
+pieces_whole : (d : Doing) (x : Stretch) → pieces_by d x [] ≡ x ∷ []
+unfolding cut spells_of
+pieces_whole (Running c) x = refl
+pieces_whole d x = refl
+
+pub cut_nowhere : (own : List Stretch) → cut_all own [] ≡ own
+unfolding cut_all
+cut_nowhere [] = refl
+cut_nowhere (x ∷ xs) = ap (λ (ys : List Stretch). ys ++ cut_all xs []) (pieces_whole x.doing x) ∙ ap (λ (ys : List Stretch). x ∷ ys) (cut_nowhere xs)
 
 -- what is pushed in two steps
 pub pushed_two : {A : Type 0} (out first both bef one rest whole all : List A) → first ≡ out ++ bef → both ≡ first ++ one → whole ≡ (bef ++ one) ++ rest

@@ -23,15 +23,20 @@ pub record AlikeBut (o : Option ℕ) (old new : List Sight) : Type 0 where
 abbrev pub EventsAlterOneSight : Type 0
 EventsAlterOneSight = (w : Work) (s : State) (n : ℕ) (c : CpuId) (e : Event) → AlikeBut (altered e) (sights_of s) (sights_of (after w s n c e))
 
--- What follows for the lists, from the sights of one thread alone.
+-- the sight of the thread that is altered, if there is one
+abbrev pub sight_among : Option ℕ → List Sight → Option Sight
+sight_among None new = None
+sight_among (Some t) new = slice_get new t
 
-abbrev pub onsets_by : Option ℕ → ℕ → ℕ → List Sight → List Sight → List Onset
-onsets_by None first tick old new = []
-onsets_by (Some t) first tick old new = onset_if t first tick (slice_get old t) (slice_get new t)
+-- What follows for the lists, from the sights of one thread alone: x is its new one.
 
-abbrev pub ranks_by : Option ℕ → ℕ → ℕ → List Sight → List Sight → List Rank
-ranks_by None first tick old new = []
-ranks_by (Some t) first tick old new = rank_if t first tick (slice_get old t) (slice_get new t)
+abbrev pub onsets_by : Option ℕ → ℕ → ℕ → List Sight → Option Sight → List Onset
+onsets_by None first tick old x = []
+onsets_by (Some t) first tick old x = onset_if t first tick (slice_get old t) x
+
+abbrev pub ranks_by : Option ℕ → ℕ → ℕ → List Sight → Option Sight → List Rank
+ranks_by None first tick old x = []
+ranks_by (Some t) first tick old x = rank_if t first tick (slice_get old t) x
 
 -- how many threads are runnable since the last of these: none before the first
 abbrev pub load_count : Option Load → ℕ
@@ -51,14 +56,14 @@ load_by_sight n first tick (Some y) (Some x) =
     if same_truth (is_runnable y) (is_runnable x) then [] else record { first = first; tick = tick; runnable = one_moved (is_runnable x) n } ∷ []
 load_by_sight n first tick old new = []
 
-abbrev pub loads_by : ℕ → Option ℕ → ℕ → ℕ → List Sight → List Sight → List Load
-loads_by n None first tick old new = []
-loads_by n (Some t) first tick old new = load_by_sight n first tick (slice_get old t) (slice_get new t)
+abbrev pub loads_by : ℕ → Option ℕ → ℕ → ℕ → List Sight → Option Sight → List Load
+loads_by n None first tick old x = []
+loads_by n (Some t) first tick old x = load_by_sight n first tick (slice_get old t) x
 
 abbrev pub with_sight : List Sight → ℕ → Option Sight → List Sight
 with_sight old t None = old
 with_sight old t (Some x) = slice_set old t x
 
-abbrev pub sights_by : Option ℕ → List Sight → List Sight → List Sight
-sights_by None old new = old
-sights_by (Some t) old new = with_sight old t (slice_get new t)
+abbrev pub sights_by : Option ℕ → List Sight → Option Sight → List Sight
+sights_by None old x = old
+sights_by (Some t) old x = with_sight old t x

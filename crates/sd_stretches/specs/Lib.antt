@@ -2,6 +2,7 @@ pub mod Altered
 pub mod Changes
 pub mod Doings
 pub mod Exact
+pub mod Glimpses
 pub mod Histories
 pub mod Named
 pub mod Order

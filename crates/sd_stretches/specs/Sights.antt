@@ -1,6 +1,7 @@
 -- What is seen of a thread in a state.
 -- Source: Solaris Internals (thread states, global priorities, priority inheritance).
 use Rattle.std.specs.Prelude.{ℕ, Bool, true, false, ◌&&◌, ◌==◌, nat_lt, List, map, count_by}
+use Rattle.sd_types.specs.declared.bodies.ThreadBody.{ThreadBody}
 use Rattle.sd_types.specs.declared.classes.Class.{Class}
 use Rattle.sd_types.specs.declared.classes.Class.TheVariants as class
 use Rattle.sd_types.specs.declared.classes.ClassState.{ClassState}
@@ -51,13 +52,16 @@ class_of (Sys s) = class.Sys
 class_of (Rt s) = class.Rt
 
 -- its priority is inherited where it is above the base priority
-abbrev pub sight_of : ThreadState → Sight
-sight_of x = record {
-  doing = doing_of x.place;
-  class = class_of x.body.class;
-  priority = eff x.body;
-  inherited = nat_lt (base_of x.body.class) (eff x.body);
+abbrev pub sight_by : ThreadBody → Doing → Sight
+sight_by b doing = record {
+  doing = doing;
+  class = class_of b.class;
+  priority = eff b;
+  inherited = nat_lt (base_of b.class) (eff b);
 }
+
+abbrev pub sight_of : ThreadState → Sight
+sight_of x = sight_by x.body (doing_of x.place)
 
 -- of each thread, in order of number
 unfoldable pub sights_of : State → List Sight

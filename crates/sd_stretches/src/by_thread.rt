@@ -1,6 +1,6 @@
 //! A history apart by thread, so that what one thread does is found without a look at what all others do.
 
-ghost use Rattle.std.specs.Prelude.{◌≡◌, ◌++◌, IfOk, OnOk, ℕ, List as Items, []};
+ghost use Rattle.std.specs.Prelude.{◌≡◌, ◌++◌, IfOk, IfSome, OnOk, ℕ, List as Items, []};
 ghost use Rattle.sd_stretches.specs.declared.histories.History.{History as HistoryValue};
 ghost use Rattle.sd_stretches.specs.declared.spin_pieces.Spell.{Spell as SpellValue};
 ghost use Rattle.sd_stretches.specs.declared.spin_pieces.Track.TheVariants as track;
@@ -10,7 +10,6 @@ ghost use Rattle.sd_stretches.specs.SpinPieces.{spell_by, spells_on as spells_in
 
 use crate::changes::{Happening, Onset, Rank, Wakeup};
 use crate::histories::History;
-use crate::rows::{own_onsets, own_ranks, own_wakeups};
 use crate::spin_pieces::{Spell, Track, spell_at, spells_on};
 use sd_types::Event;
 use std::alloc::{AllocError, Global};
@@ -143,23 +142,23 @@ fn copied<T: Copy + Drop>(alloc: Global, items: &[T]) -> Result<Vec<T>, AllocErr
 }
 
 impl ByThread {
-    /// The onsets of a thread.
-    pub(crate) fn onsets_of(&self, alloc: Global, t: usize) -> Result<Vec<Onset>, AllocError>
-        ensures { IfOk result (λ v. v.items ≡ own_onsets_in t self.now.onsets.items) }
+    /// The onsets of a thread, where they stand apart.
+    pub(crate) fn onset_row(&self, t: usize) -> Option<&[Onset]>
+        ensures { IfSome result (λ row. row.now ≡ own_onsets_in t self.now.onsets.items) }
     {
         match self.onsets.get(t) {
-            Some(row) => copied(alloc, row),
-            None => own_onsets(alloc, &self.history.onsets, t),
+            Some(row) => Some(row.as_slice()),
+            None => None,
         }
     }
 
-    /// The ranks of a thread.
-    pub(crate) fn ranks_of(&self, alloc: Global, t: usize) -> Result<Vec<Rank>, AllocError>
-        ensures { IfOk result (λ v. v.items ≡ own_ranks_in t self.now.ranks.items) }
+    /// The ranks of a thread, where they stand apart.
+    pub(crate) fn rank_row(&self, t: usize) -> Option<&[Rank]>
+        ensures { IfSome result (λ row. row.now ≡ own_ranks_in t self.now.ranks.items) }
     {
         match self.ranks.get(t) {
-            Some(row) => copied(alloc, row),
-            None => own_ranks(alloc, &self.history.ranks, t),
+            Some(row) => Some(row.as_slice()),
+            None => None,
         }
     }
 
@@ -173,13 +172,13 @@ impl ByThread {
         }
     }
 
-    /// The wakeups of a thread.
-    pub fn wakeups_of(&self, alloc: Global, t: usize) -> Result<Vec<Wakeup>, AllocError>
-        ensures { IfOk result (λ v. v.items ≡ own_wakeups_in t self.now.wakeups.items) }
+    /// The wakeups of a thread, where they stand apart.
+    pub fn wakeup_row(&self, t: usize) -> Option<&[Wakeup]>
+        ensures { IfSome result (λ row. row.now ≡ own_wakeups_in t self.now.wakeups.items) }
     {
         match self.wakeups.get(t) {
-            Some(row) => copied(alloc, row),
-            None => own_wakeups(alloc, &self.history.wakeups, t),
+            Some(row) => Some(row.as_slice()),
+            None => None,
         }
     }
 }

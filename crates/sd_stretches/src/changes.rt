@@ -2,15 +2,12 @@
 //!
 //! Source: Solaris Internals (turnstiles, sleep queues); the lists are this project's own.
 
-ghost use Rattle.std.specs.Prelude.{◌≡◌, ◌++◌, OnOk, slice_get, None, Some};
-ghost use Rattle.sd_state.specs.States.{cpu_of};
+ghost use Rattle.std.specs.Prelude.{◌≡◌, ◌++◌, OnOk, slice_get};
 ghost use Rattle.sd_stretches.specs.Altered.{last_count, load_by_sight, one_moved, with_sight};
-ghost use Rattle.sd_stretches.specs.Changes.{giver, giver_of, hand_over_of, hand_overs_of, happening_of, happenings_of, is_above_base, is_giver, is_inherited, is_priority, is_that_thread, load_if, owner_of, rank_if, ranks_between, onset_if, onsets_between, wakeup_of, wakeups_of, wanted_lock, woken_by, waker_of};
+ghost use Rattle.sd_stretches.specs.Changes.{is_that_thread, load_if, onset_if, onsets_between, rank_if, ranks_between, wanted_lock, woken_by};
 
 use crate::sights::{Doing, Sight, is_runnable, runnable, same_doing, same_rank};
-use sd_flat::{greatest_waiting, index_of_runner};
-use sd_state::{LockState, Place, State, ThreadState};
-use sd_types::{Class, CpuId, Entry, Event, LockId, ThreadId};
+use sd_types::{Class, CpuId, Event, LockId, ThreadId};
 use std::alloc::AllocError;
 
 /// From a state on a thread does this: from the one that `first` entries made, so entry `first` - 1 is the cause, or, for 0,
@@ -263,101 +260,6 @@ pub(crate) fn set_sight(sights: &mut [Sight], t: usize, new: Option<Sight>)
     }
 }
 
-// Waits for the lock with this priority.
-fn is_giver(l: LockId, greatest: u8, x: &ThreadState) -> bool
-    ensures { result ≡ is_giver l.0 greatest x.now }
-{
-    match x.place {
-        Place::Waiting(m, _, _) => m.0 == l.0 && x.body.effective() == greatest,
-        _ => false,
-    }
-}
-
-fn first_giver(s: &State, l: LockId, greatest: u8) -> Option<usize>
-    ensures { result ≡ giver_of s.now l.0 (Some greatest) }
-{
-    s.threads
-        .items()
-        .iter()
-        .position(|x| is_giver(l, greatest, x))
-}
-
-// The first thread that waits for the lock and has the greatest priority of those who do.
-fn giver(s: &State, l: LockId) -> Option<usize>
-    ensures { result ≡ giver s.now l.0 }
-{
-    match greatest_waiting(s, l) {
-        Some(greatest) => first_giver(s, l, greatest),
-        None => None,
-    }
-}
-
-/// The tick of an entry: its processor's count after it.
-pub(crate) fn count_of(s: &State, c: CpuId) -> u32
-    ensures { result ≡ (cpu_of s.now c.0).count }
-{
-    match s.cpus.items().get(c.0 as usize) {
-        Some(cpu) => cpu.count,
-        None => 0,
-    }
-}
-
-fn is_above_base(s: &State, t: ThreadId, priority: u8) -> bool
-    ensures { result ≡ is_above_base (slice_get s.now.threads t.0) priority }
-{
-    match s.threads.items().get(t.0 as usize) {
-        Some(x) => x.body.class.base() < priority,
-        None => false,
-    }
-}
-
-fn is_priority(greatest: Option<u8>, priority: u8) -> bool
-    ensures { result ≡ is_priority greatest priority }
-{
-    match greatest {
-        Some(greatest) => greatest == priority,
-        None => false,
-    }
-}
-
-// The owner has its effective priority from those who wait for the lock.
-fn is_inherited(s: &State, l: LockId, owner: ThreadId, priority: u8) -> bool
-    ensures { result ≡ is_inherited s.now l.0 owner.0 priority }
-{
-    is_above_base(s, owner, priority) && is_priority(greatest_waiting(s, l), priority)
-}
-
-fn hand_over_of(s: &State, entry: &Entry) -> Option<HandOver>
-    ensures { result ≡ hand_over_of s.now entry.now }
-{
-    match entry.event {
-        Event::Will { l, o, p, .. } => Some(HandOver {
-            entry: entry.number,
-            tick: count_of(s, entry.cpu),
-            lock: l,
-            waiter: giver(s, l),
-            owner: o,
-            priority: p,
-            inherited: is_inherited(s, l, o, p),
-        }),
-        _ => None,
-    }
-}
-
-/// Appends what the entry, which made this state, hands on.
-pub(crate) fn push_hand_over(
-    s: &State,
-    entry: &Entry,
-    out: &mut Vec<HandOver>,
-) -> Result<(), AllocError>
-    ensures { OnOk result (out.new.items ≡ out.old.items ++ hand_overs_of s.now (Some entry.now)) }
-{
-    if let Some(given) = hand_over_of(s, entry) {
-        out.push(given)?;
-    }
-    Ok(())
-}
-
 /// Whether there is a thread, and it is this one.
 pub fn is_that_thread(thread: ThreadId, other: Option<ThreadId>) -> bool
     ensures { result ≡ is_that_thread thread other }
@@ -389,39 +291,8 @@ pub fn woken_by(event: &Event) -> Option<ThreadId>
     }
 }
 
-fn waker_of(s: &State, c: CpuId, event: &Event) -> Option<usize>
-    ensures { result ≡ waker_of s.now c event.now }
-{
-    match event {
-        Event::Napend { .. } => None,
-        _ => index_of_runner(s, c),
-    }
-}
-
-fn wakeup_of(s: &State, entry: &Entry) -> Option<Wakeup>
-    ensures { result ≡ wakeup_of s.now entry.now }
-{
-    let woken = woken_by(&entry.event)?;
-    Some(Wakeup {
-        entry: entry.number,
-        tick: count_of(s, entry.cpu),
-        waker: waker_of(s, entry.cpu, &entry.event),
-        woken,
-    })
-}
-
-/// Appends whom the entry, which made this state, wakes.
-pub(crate) fn push_wakeup(s: &State, entry: &Entry, out: &mut Vec<Wakeup>) -> Result<(), AllocError>
-    ensures { OnOk result (out.new.items ≡ out.old.items ++ wakeups_of s.now (Some entry.now)) }
-{
-    if let Some(wakeup) = wakeup_of(s, entry) {
-        out.push(wakeup)?;
-    }
-    Ok(())
-}
-
-// The lock for which a thread spins or blocks.
-fn wanted_lock(event: &Event) -> Option<LockId>
+/// The lock for which an event says that a thread spins or blocks.
+pub fn wanted_lock(event: &Event) -> Option<LockId>
     ensures { result ≡ wanted_lock event.now }
 {
     match *event {
@@ -429,37 +300,4 @@ fn wanted_lock(event: &Event) -> Option<LockId>
         Event::Block { l, .. } => Some(l),
         _ => None,
     }
-}
-
-fn owner_of(s: &State, l: Option<LockId>) -> Option<ThreadId>
-    ensures { result ≡ owner_of s.now l }
-{
-    match s.locks.items().get(l?.0 as usize) {
-        Some(LockState::Owned(o)) => Some(*o),
-        _ => None,
-    }
-}
-
-fn happening_of(s: &State, entry: &Entry) -> Happening
-    ensures { result ≡ happening_of s.now entry.now }
-{
-    Happening {
-        entry: entry.number,
-        cpu: entry.cpu,
-        tick: count_of(s, entry.cpu),
-        event: entry.event,
-        owner: owner_of(s, wanted_lock(&entry.event)),
-    }
-}
-
-/// Appends the entry, which made this state.
-pub(crate) fn push_happening(
-    s: &State,
-    entry: &Entry,
-    out: &mut Vec<Happening>,
-) -> Result<(), AllocError>
-    ensures { OnOk result (out.new.items ≡ out.old.items ++ happenings_of s.now (Some entry.now)) }
-{
-    out.push(happening_of(s, entry))?;
-    Ok(())
 }

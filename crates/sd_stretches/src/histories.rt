@@ -7,16 +7,17 @@ ghost use Rattle.sd_state.specs.Opening.{opening};
 ghost use Rattle.sd_machine.specs.Runs.{final};
 ghost use Rattle.sd_stretches.specs.Altered.{last_count, loads_by, onsets_by, ranks_by, sights_by};
 ghost use Rattle.sd_stretches.specs.Changes.{load_if, ranks_between, onsets_between};
+ghost use Rattle.sd_stretches.specs.Glimpses.{glimpse_of};
 ghost use Rattle.sd_stretches.specs.Histories.{IsHistory};
 ghost use Rattle.sd_stretches.specs.Sights.{sights_of};
 
 use crate::changes::{
-    HandOver, Happening, Load, Onset, Rank, Wakeup, count_of, push_hand_over, push_happening,
-    push_load, push_load_by, push_onset, push_onsets, push_rank, push_ranks, push_wakeup,
-    set_sight, sight_at,
+    HandOver, Happening, Load, Onset, Rank, Wakeup, push_load, push_load_by, push_onset,
+    push_onsets, push_rank, push_ranks, set_sight, sight_at,
 };
+use crate::glimpses::{Glimpse, push_hand_over, push_happening, push_wakeup};
 use crate::named::altered;
-use crate::sights::{Sight, sight_in, sights_of};
+use crate::sights::{Sight, sights_of};
 use sd_state::State;
 use sd_types::{Entry, Work};
 use std::alloc::{AllocError, Global};
@@ -83,14 +84,13 @@ impl History {
     fn see(
         &mut self,
         altered: Option<usize>,
-        s: &State,
+        glimpse: &Glimpse,
         first: u64,
-        tick: u32,
     ) -> Result<(), AllocError>
-        ensures onsets { OnOk result (self.new.onsets.items ≡ self.old.onsets.items ++ onsets_by altered first tick self.old.sights.items (sights_of s.now)) }
-        ensures ranks { OnOk result (self.new.ranks.items ≡ self.old.ranks.items ++ ranks_by altered first tick self.old.sights.items (sights_of s.now)) }
-        ensures loads { OnOk result (self.new.loads.items ≡ self.old.loads.items ++ loads_by (last_count self.old.loads.items) altered first tick self.old.sights.items (sights_of s.now)) }
-        ensures sights { OnOk result (self.new.sights.items ≡ sights_by altered self.old.sights.items (sights_of s.now)) }
+        ensures onsets { OnOk result (self.new.onsets.items ≡ self.old.onsets.items ++ onsets_by altered first glimpse.now.tick self.old.sights.items glimpse.now.sight) }
+        ensures ranks { OnOk result (self.new.ranks.items ≡ self.old.ranks.items ++ ranks_by altered first glimpse.now.tick self.old.sights.items glimpse.now.sight) }
+        ensures loads { OnOk result (self.new.loads.items ≡ self.old.loads.items ++ loads_by (last_count self.old.loads.items) altered first glimpse.now.tick self.old.sights.items glimpse.now.sight) }
+        ensures sights { OnOk result (self.new.sights.items ≡ sights_by altered self.old.sights.items glimpse.now.sight) }
         ensures entries { self.new.entries ≡ self.old.entries }
         ensures hand_overs { self.new.hand_overs ≡ self.old.hand_overs }
         ensures wakeups { self.new.wakeups ≡ self.old.wakeups }
@@ -99,8 +99,9 @@ impl History {
         let Some(t) = altered else {
             return Ok(());
         };
+        let tick = glimpse.tick;
         let old = sight_at(&self.sights, t);
-        let new = sight_in(s, t);
+        let new = glimpse.sight;
         push_onset(t, first, tick, old, new, &mut self.onsets)?;
         push_rank(t, first, tick, old, new, &mut self.ranks)?;
         push_load_by(first, tick, old, new, &mut self.loads)?;
@@ -117,19 +118,18 @@ impl History {
         Ok(history)
     }
 
-    /// Takes in the next entry, which made this state. Where memory runs out nothing is said of what is there.
-    pub fn add(&mut self, s: &State, entry: &Entry) -> Result<(), AllocError>
+    /// Takes in the next entry, of whose state this is seen. Where memory runs out nothing is said of what is there.
+    pub fn add(&mut self, glimpse: &Glimpse, entry: &Entry) -> Result<(), AllocError>
         requires { self.old.entries < 2 ^ 62 }
         ensures { OnOk result ((w : WorkValue) (es : Items EntryValue)
-            → s.now ≡ final w (opening w) (es ++ entry.now ∷ []) → IsHistory w es self.old → IsHistory w (es ++ entry.now ∷ []) self.new) }
+            → glimpse.now ≡ glimpse_of (final w (opening w) (es ++ entry.now ∷ [])) entry.now → IsHistory w es self.old → IsHistory w (es ++ entry.now ∷ []) self.new) }
     {
         let first = self.entries + 1;
-        let tick = count_of(s, entry.cpu);
-        self.see(altered(&entry.event), s, first, tick)?;
+        self.see(altered(&entry.event), glimpse, first)?;
         self.entries = first;
-        push_hand_over(s, entry, &mut self.hand_overs)?;
-        push_wakeup(s, entry, &mut self.wakeups)?;
-        push_happening(s, entry, &mut self.happenings)?;
+        push_hand_over(&self.sights, glimpse, entry, &mut self.hand_overs)?;
+        push_wakeup(glimpse, entry, &mut self.wakeups)?;
+        push_happening(glimpse, entry, &mut self.happenings)?;
         Ok(())
     }
 }

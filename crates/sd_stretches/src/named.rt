@@ -73,7 +73,7 @@ fn index_of(t: ThreadId) -> Option<usize>
 }
 
 /// The thread that an event may alter: its place, its class state or the priorities that it inherits.
-pub(crate) fn altered(event: &Event) -> Option<usize>
+pub fn altered(event: &Event) -> Option<usize>
     ensures { result ≡ altered event.now }
 {
     match *event {

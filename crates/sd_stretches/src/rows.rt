@@ -2,10 +2,10 @@
 
 ghost use Rattle.std.specs.Prelude.{◌≡◌, ◌++◌, ◌==◌, ◌∷◌, [], IfOk, OnOk, filter, if◌then◌else◌};
 ghost use Rattle.sd_stretches.specs.Sights.{runs_on};
-ghost use Rattle.sd_stretches.specs.Rows.{level_to, levels, next_of, own_ranks, own_onsets, own_wakeups, slices, stretch_to, stretches, stretches_of};
+ghost use Rattle.sd_stretches.specs.Rows.{level_to, levels, levels_of, next_of, own_onsets, own_ranks, slices, stretch_to, stretches, stretches_of};
 
 use crate::by_thread::ByThread;
-use crate::changes::{Onset, Rank, Wakeup};
+use crate::changes::{Onset, Rank};
 use crate::sights::{Doing, runs_on};
 use sd_types::Class;
 use std::alloc::{AllocError, Global};
@@ -51,30 +51,6 @@ pub(crate) fn own_onsets(
     Ok(own)
 }
 
-fn push_own_wakeup(x: Wakeup, t: usize, own: &mut Vec<Wakeup>) -> Result<(), AllocError>
-    ensures { OnOk result (own.new.items ≡ own.old.items ++ own_wakeups t (x ∷ [])) }
-{
-    if x.woken.0 as usize == t {
-        own.push(x)?;
-    }
-    Ok(())
-}
-
-// The wakeups of one thread.
-pub(crate) fn own_wakeups(
-    alloc: Global,
-    wakeups: &[Wakeup],
-    t: usize,
-) -> Result<Vec<Wakeup>, AllocError>
-    ensures { IfOk result (λ v. v.items ≡ own_wakeups t wakeups.now) }
-{
-    let mut own = Vec::new(alloc);
-    for x in wakeups {
-        push_own_wakeup(*x, t, &mut own)?;
-    }
-    Ok(own)
-}
-
 fn first_onset(onsets: &[Onset]) -> Option<Onset>
     ensures { result ≡ next_of onsets.now }
 {
@@ -110,7 +86,7 @@ fn stretches_of(
 ) -> Result<Vec<Stretch>, AllocError>
     ensures { IfOk result (λ v. v.items ≡ stretches_of entries end own.now) }
 {
-    let mut found = Vec::new(alloc);
+    let mut found = Vec::with_capacity(alloc, own.len())?;
     let mut left = own;
     while let Some((x, rest)) = left.split_first() {
         found.push(stretch_to(entries, end, *x, first_onset(rest)))?;
@@ -129,8 +105,14 @@ pub fn stretches(
 ) -> Result<Vec<Stretch>, AllocError>
     ensures { IfOk result (λ v. v.items ≡ stretches t history.now.onsets.items history.now.entries end) }
 {
-    let own = history.onsets_of(alloc, t)?;
-    stretches_of(alloc, &own, history.history.entries, end)
+    let entries = history.history.entries;
+    match history.onset_row(t) {
+        Some(own) => stretches_of(alloc, own, entries, end),
+        None => {
+            let own = own_onsets(alloc, &history.history.onsets, t)?;
+            stretches_of(alloc, &own, entries, end)
+        }
+    }
 }
 
 // The first onset of the thread.
@@ -237,6 +219,20 @@ fn level_to(end: u32, x: Rank, next: Option<Rank>) -> Level
     }
 }
 
+// The levels that the ranks of a thread begin.
+#[tactic(auto, unfolding(crate::specs::Rows::levels_of))]
+fn levels_of(alloc: Global, own: &[Rank], end: u32) -> Result<Vec<Level>, AllocError>
+    ensures { IfOk result (λ v. v.items ≡ levels_of end own.now) }
+{
+    let mut found = Vec::with_capacity(alloc, own.len())?;
+    let mut left = own;
+    while let Some((x, rest)) = left.split_first() {
+        found.push(level_to(end, *x, first_rank(rest)))?;
+        left = rest;
+    }
+    Ok(found)
+}
+
 /// The levels of a thread's priority in order, from the history of a run that ended at this tick.
 #[tactic(auto, unfolding(crate::specs::Rows::levels))]
 pub fn levels(
@@ -247,12 +243,11 @@ pub fn levels(
 ) -> Result<Vec<Level>, AllocError>
     ensures { IfOk result (λ v. v.items ≡ levels t history.now.ranks.items end) }
 {
-    let own = history.ranks_of(alloc, t)?;
-    let mut found = Vec::new(alloc);
-    let mut left: &[Rank] = &own;
-    while let Some((x, rest)) = left.split_first() {
-        found.push(level_to(end, *x, first_rank(rest)))?;
-        left = rest;
+    match history.rank_row(t) {
+        Some(own) => levels_of(alloc, own, end),
+        None => {
+            let own = own_ranks(alloc, &history.history.ranks, t)?;
+            levels_of(alloc, &own, end)
+        }
     }
-    Ok(found)
 }

@@ -2,12 +2,12 @@
 //!
 //! Source: Solaris Internals (thread states, global priorities, priority inheritance).
 
-ghost use Rattle.std.specs.Prelude.{◌≡◌, ◌==◌, map, IfOk, slice_get};
+ghost use Rattle.std.specs.Prelude.{◌≡◌, ◌==◌, map, IfOk};
 ghost use Rattle.sd_types.specs.Priorities.{base_of, eff};
-ghost use Rattle.sd_stretches.specs.Sights.{class_of, doing_of, runs_on, does_run, same_doing, same_rank, sight_of, sights_of, runnable, is_runnable};
+ghost use Rattle.sd_stretches.specs.Sights.{class_of, doing_of, runs_on, does_run, same_doing, same_rank, sight_by, sight_of, sights_of, runnable, is_runnable};
 
 use sd_state::{Place, State, ThreadState};
-use sd_types::{ChanId, Class, ClassState, CpuId, LockId};
+use sd_types::{ChanId, Class, ClassState, CpuId, LockId, ThreadBody};
 use std::alloc::{AllocError, Global};
 
 /// What a thread does: it runs on a processor, spins there for a lock, stands on a dispatch queue, waits for a lock, sleeps on a
@@ -59,27 +59,23 @@ fn class_of(class: &ClassState) -> Class
     }
 }
 
-fn sight_of(x: &ThreadState) -> Sight
-    ensures { result ≡ sight_of x.now }
+/// What is seen of a thread that has this body and does this.
+pub fn sight_by(body: &ThreadBody, doing: Doing) -> Sight
+    ensures { result ≡ sight_by body.now doing }
 {
-    let priority = x.body.effective();
+    let priority = body.effective();
     Sight {
-        doing: doing_of(x.place),
-        class: class_of(&x.body.class),
+        doing,
+        class: class_of(&body.class),
         priority,
-        inherited: x.body.class.base() < priority,
+        inherited: body.class.base() < priority,
     }
 }
 
-/// What is seen of a thread of the state, if it has one of this number.
-#[tactic(auto, unfolding(crate::specs::Sights::sights_of))]
-pub(crate) fn sight_in(s: &State, t: usize) -> Option<Sight>
-    ensures { result ≡ slice_get (sights_of s.now) t }
+fn sight_of(x: &ThreadState) -> Sight
+    ensures { result ≡ sight_of x.now }
 {
-    match s.threads.items().get(t) {
-        Some(x) => Some(sight_of(x)),
-        None => None,
-    }
+    sight_by(&x.body, doing_of(x.place))
 }
 
 /// What is seen of each thread of the state.

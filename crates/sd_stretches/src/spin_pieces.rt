@@ -278,5 +278,8 @@ pub fn pieces(
 {
     let whole = track_stretches(alloc, track, history, end)?;
     let spells = track_spells(alloc, track, history)?;
+    if spells.is_empty() {
+        return Ok(whole);
+    }
     cut_all(alloc, &whole, &spells)
 }

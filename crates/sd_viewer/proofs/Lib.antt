@@ -1,2 +1,3 @@
 pub mod ClosingLemmas
+pub mod GlimpseLemmas
 pub mod ViewLemmas

@@ -1,6 +1,7 @@
 pub mod Drawings
 pub mod Forms
 pub mod Gathering
+pub mod Glimpses
 pub mod Promises
 pub mod Starts
 pub mod Viewing

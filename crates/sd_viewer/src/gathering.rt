@@ -2,31 +2,28 @@
 
 ghost use Rattle.std.specs.Prelude.{◌≡◌, ◌<◌, ◌^◌, [], IfOk, IfErr, length};
 ghost use Rattle.sd_state.specs.Opening.{opening as opening_of};
-ghost use Rattle.sd_machine.specs.Runs.{final};
 ghost use Rattle.sd_audit.specs.Audits.{IsFault};
 ghost use Rattle.sd_stretches.specs.Histories.{IsHistory};
 ghost use Rattle.sd_viewer.specs.Gathering.{IsGathered};
 
+use crate::glimpses::glimpse_of;
 use sd_audit::{AuditFault, Collector, Judged, audit_collecting};
 use sd_homes_replay::step;
 use sd_opening::opening;
-use sd_replay::apply;
 use sd_state::State;
 use sd_stretches::History;
 use sd_types::{Entry, Work};
 use sd_world::PlainWorld;
 use std::alloc::{AllocError, Global};
 
-/// The history of the entries that were made so far, and the state to which they led: beside the homes, so that no look for the
-/// history goes through them.
+/// The history of the entries that were made so far. What it takes in is looked up in the homes that the audit steps.
 #[derive(Drop)]
 struct Historian {
     history: History,
-    state: State,
 }
 
 impl Collector for Historian {
-    ghost became = { λ w es first historian. IsHistory w es historian.history × (historian.state ≡ final w (opening_of w) es) };
+    ghost became = { λ w es first historian. IsHistory w es historian.history };
 
     fn enter(
         &mut self,
@@ -36,8 +33,7 @@ impl Collector for Historian {
         entry: &Entry,
     ) -> Result<bool, AllocError> {
         if step(work, world, entry)? {
-            apply(work, &mut self.state, entry.number, entry.cpu, entry.event);
-            self.history.add(&self.state, entry)?;
+            self.history.add(&glimpse_of(work, world, entry), entry)?;
             Ok(true)
         } else {
             Ok(false)
@@ -45,14 +41,13 @@ impl Collector for Historian {
     }
 }
 
-/// The history of a run before its first entry.
-fn begin(alloc: Global, work: &Work) -> Result<Historian, AllocError>
-    ensures history { IfOk result (λ h. IsHistory work.now [] h.history) }
-    ensures state { IfOk result (λ h. h.state ≡ final work.now (opening_of work.now) []) }
+/// The history of a run before its first entry, from its initial state.
+fn begin(alloc: Global, work: &Work, s: &State) -> Result<Historian, AllocError>
+    requires { s.now ≡ opening_of work.now }
+    ensures { IfOk result (λ h. IsHistory work.now [] h.history) }
 {
-    let state = opening(alloc, work)?;
-    let history = History::new(alloc, &state)?;
-    Ok(Historian { history, state })
+    let history = History::new(alloc, s)?;
+    Ok(Historian { history })
 }
 
 /// A complete legal run, as pictures and reports need it: its history, its final state with its blocking cycles, and how many entries it has.
@@ -73,7 +68,7 @@ pub(crate) fn gather(alloc: Global, work: &Work, text: &[u8]) -> Result<Gathered
     let Ok(s) = opening(alloc, work) else {
         return Err(AuditFault::Memory { number: 0 });
     };
-    let Ok(mut historian) = begin(alloc, work) else {
+    let Ok(mut historian) = begin(alloc, work, &s) else {
         return Err(AuditFault::Memory { number: 0 });
     };
     let Judged {

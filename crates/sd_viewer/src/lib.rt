@@ -6,6 +6,7 @@ mod drawings;
 mod forms;
 mod frames;
 mod gathering;
+mod glimpses;
 mod helping;
 mod lines;
 mod top;

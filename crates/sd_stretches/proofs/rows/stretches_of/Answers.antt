@@ -4,7 +4,7 @@ use Rattle.sd_stretches.proofs.RowLemmas.{found_all, found_more}
 use Rattle.sd_stretches.proofs.rows.stretches_of.Goals as goal
 
 pub loop-x-init : goal.loop-x-init
-loop-x-init c = rw c.new-found.ensures.items refl
+loop-x-init c = rw c.in_ok-found.ensures.items refl
 
 pub loop-x-preserved : goal.loop-x-preserved
 unfolding stretches_of

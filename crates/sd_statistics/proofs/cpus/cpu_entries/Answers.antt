@@ -1,7 +1,7 @@
 use Rattle.std.proofs.Common.{arith}
 use Rattle.std.proofs.lemmas.Grind.{common_steps}
 use Rattle.sd_stretches.proofs.RangeLemmas.{filter_take_more}
-use Rattle.sd_stretches.proofs.rows.own_wakeups.Goals as goal
+use Rattle.sd_statistics.proofs.cpus.cpu_entries.Goals as goal
 
 pub loop-x-preserved : goal.loop-x-preserved
 loop-x-preserved c = grind (arith, common_steps, filter_take_more)

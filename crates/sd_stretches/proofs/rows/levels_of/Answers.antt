@@ -1,10 +1,10 @@
 use Rattle.std.proofs.Common.{◌≡◌, [], ◌∷◌, refl, ap, sym, ◌∙◌}
-use Rattle.sd_stretches.specs.Rows.{level_to, levels, levels_of, next_of}
+use Rattle.sd_stretches.specs.Rows.{level_to, levels_of, next_of}
 use Rattle.sd_stretches.proofs.RowLemmas.{found_all, found_more}
-use Rattle.sd_stretches.proofs.rows.levels.Goals as goal
+use Rattle.sd_stretches.proofs.rows.levels_of.Goals as goal
 
 pub loop-x-init : goal.loop-x-init
-loop-x-init c = rw c.new-found.ensures.items refl
+loop-x-init c = rw c.in_ok-found.ensures.items refl
 
 pub loop-x-preserved : goal.loop-x-preserved
 unfolding levels_of
@@ -15,7 +15,5 @@ loop-x-preserved c =
     (ap (λ y. y ∷ levels_of c.args.end c.in-Some.rest.now) (sym made)) now c.loop-x.invariant c.in_ok-push.ensures.items
 
 pub returns : goal.returns
-unfolding levels levels_of
-returns c =
-    found_all (levels_of c.args.end) c.loop-x.left.now c.loop-x.found.items _ refl c.in_default.ensures.cases c.loop-x.invariant
-    ∙ ap (levels_of c.args.end) (c.deref-left.ensures.value ∙ c.in_ok-own.ensures)
+unfolding levels_of
+returns c = found_all (levels_of c.args.end) c.loop-x.left.now c.loop-x.found.items _ refl c.in_default.ensures.cases c.loop-x.invariant
