@@ -81,7 +81,8 @@ pub fn judge_answer<R: Files + AllocGlobal>(
     name: &str,
 ) -> Result<Option<Compared>> {
     let alloc = rt.alloc();
-    let Some(stored) = read_if_there(rt, format!(in alloc; "{folder}/{name}.find")?.as_str())? else {
+    let Some(stored) = read_if_there(rt, format!(in alloc; "{folder}/{name}.find")?.as_str())?
+    else {
         return Ok(None);
     };
     let text = std::str::from_utf8(stored.as_slice())?;
@@ -133,7 +134,8 @@ pub fn judge_stored_report<R: Files + AllocGlobal>(
     name: &str,
 ) -> Result<Option<Compared>> {
     let alloc = rt.alloc();
-    let Some(stored) = read_if_there(rt, format!(in alloc; "{folder}/{name}.report")?.as_str())? else {
+    let Some(stored) = read_if_there(rt, format!(in alloc; "{folder}/{name}.report")?.as_str())?
+    else {
         return Ok(None);
     };
     let workload = read_file(rt, format!(in alloc; "{folder}/{name}.workload")?.as_str())?;
