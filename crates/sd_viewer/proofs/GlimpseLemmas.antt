@@ -1,11 +1,9 @@
 -- What the homes tell of a state is what is seen of it.
 use Rattle.std.proofs.Common.{◌≡◌, ℕ, ◌<◌, ◌≤◌, List, length, Option, Some, None, refl, sym, ap, ◌∙◌, subst, inl, inr}
 use Rattle.std.specs.Prelude.{option_map, slice_get, unwrap_or}
-use Rattle.std.proofs.lemmas.Bool.{cases_lt}
 use Rattle.std.proofs.lemmas.Option.{slice_get-get_or, slice_get-map, slice_get_past, unwrap_or-slice_get}
 use Rattle.sd_types.specs.declared.bodies.ThreadBody.{ThreadBody}
 use Rattle.sd_types.specs.declared.events.Entry.{Entry}
-use Rattle.sd_types.specs.declared.events.Event.{Event}
 use Rattle.sd_types.specs.declared.numbers.ThreadId.{ThreadId}
 use Rattle.sd_types.specs.declared.works.Work.{Work}
 use Rattle.sd_types.specs.Priorities.{base_of}
@@ -25,7 +23,7 @@ use Rattle.sd_store.specs.declared.spots.Spot.{Spot}
 use Rattle.sd_store.specs.Keyless.{spot_of}
 use Rattle.sd_world.specs.declared.plain.PlainWorld.{PlainWorld}
 use Rattle.sd_world.specs.Plain.{told}
-use Rattle.sd_homes_replay.proofs.StepLemmas.{none_outside}
+use Rattle.sd_invariants.proofs.Ready.{maker_inside}
 use Rattle.sd_stretches.specs.declared.sights.Doing.{Doing}
 use Rattle.sd_stretches.specs.declared.sights.Sight.{Sight}
 use Rattle.sd_stretches.specs.Changes.{is_above_base, owner_in}
@@ -68,12 +66,6 @@ owner_read s l lock is = ap (λ (x : LockState). owner_in (Some x)) (is ∙ sym 
     by None = refl
     by (Some x) = refl
 
-none_some : (e : Event) → None ≡ Some e → ⊥
-none_some e is = cc
-
 -- the processor of a step is one of the workload's
 pub step_inside : (w : Work) (s : State) (e : Entry) → IsStep w s e → e.cpu.0 < w.cpus
-step_inside w s e is = elim (cases_lt e.cpu.0 w.cpus) [
-  | inl inside ↦ inside
-  | inr past ↦ absurd (none_some e.event (sym (none_outside w s e.cpu e.hints past) ∙ is))
-]
+step_inside w s e is = maker_inside w s e.cpu e.hints e.event is

@@ -1,4 +1,5 @@
 use Rattle.std.proofs.Common.{◌≡◌, sym, ap, ◌∙◌, subst}
+use Rattle.std.specs.Bool.{OnTrue}
 use Rattle.sd_state.specs.declared.states.State.{State}
 use Rattle.sd_machine.specs.Events.{after}
 use Rattle.sd_machine.proofs.RunLemmas.{final-push}
@@ -15,5 +16,6 @@ pub returns-in_ok-add-clause-takes : goal.returns-in_ok-add-clause-takes
 returns-in_ok-add-clause-takes c = λ first es ends had.
     let w = c.args.work.now in
     let e = c.args.entry.now in
-    let leads = c.in_ok-step.ensures.made ∙ ap (λ (x : State). after w x e.number e.cpu e.event) ends ∙ sym (final-push w _ es e) in
+    let made = subst (λ b. OnTrue b (told w c.step.new.world ≡ after w (told w c.args.world.now) e.number e.cpu e.event)) c.if-branch.true c.in_ok-step.ensures.made in
+    let leads = made ∙ ap (λ (x : State). after w x e.number e.cpu e.event) ends ∙ sym (final-push w _ es e) in
     c.in_ok-add.ensures w es (c.glimpse_of.ensures ∙ ap (λ (x : State). glimpse_of x e) leads) had
