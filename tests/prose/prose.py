@@ -56,8 +56,8 @@ def plain(text):
 
 
 def sentences(text):
-    """The sentences of a paragraph: they end with a full stop, a question mark or a colon."""
-    parts = re.split(r"(?<=[.?!:])[\"')]*\s+(?=[A-Z(\"'0-9])|(?<=:)\s+", plain(text))
+    """The sentences of a paragraph: they end with a full stop or a question mark."""
+    parts = re.split(r"(?<=[.?!])[\"')]*\s+(?=[A-Z(\"'0-9])", plain(text))
     return [part for part in parts if re.search(r"\w", part)]
 
 
