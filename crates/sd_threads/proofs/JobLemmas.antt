@@ -1,6 +1,6 @@
--- Processors between two phases.
-use Rattle.std.proofs.Common.{◌≡◌, ℕ, zero, suc, ◌+◌, ◌^◌, ◌<◌, ◌≤◌, ◌⊎◌, Bool, true, false, length-append, Ok, List, [], ◌∷◌, ◌++◌, length, get_or, slice_get, Some, Result, Err, refl, sym, ap, ◌∙◌, subst, arith}
-use Rattle.std.specs.Prelude.{◌-◌, ◌||◌, min, nat_lt, slice_index_or}
+-- Processors between two stints.
+use Rattle.std.proofs.Common.{◌≡◌, ℕ, zero, suc, ◌+◌, ◌^◌, ◌<◌, ◌≤◌, Bool, true, false, length-append, Ok, List, [], ◌∷◌, ◌++◌, length, get_or, slice_get, Some, Result, Err, refl, sym, ap, ◌∙◌, subst, arith}
+use Rattle.std.specs.Prelude.{◌-◌, min, nat_lt, slice_index_or}
 use Rattle.std.proofs.Math.Nat.{le-min}
 use Rattle.std.proofs.lemmas.Bool.Decides.{nat_tests}
 use Rattle.std.proofs.lemmas.List.{get_or_default}
@@ -8,7 +8,7 @@ use Rattle.atomic_table.specs.Seated.{TableId}
 use Rattle.sd_types.specs.declared.numbers.CpuId.{CpuId}
 use Rattle.sd_types.specs.declared.events.Entry.{Entry}
 use Rattle.sd_types.specs.declared.events.Stop.{Stop}
-use Rattle.sd_types.specs.declared.events.Stop.TheVariants.{Full}
+use Rattle.sd_types.specs.declared.events.Stop.TheVariants.{Full, Memory}
 use Rattle.sd_types.specs.declared.works.Work.{Work}
 use Rattle.sd_world.specs.Worlds.{Meaning, entry_of}
 use Rattle.sd_cpu.specs.Attempts.{IsEmpty, IsSameWorld, MakesOne, Refuses}
@@ -82,6 +82,27 @@ made_as_logged m m' (Ok p) a = ends p.entries p.end a.stops
     ends entries (Behind c n) is = idle entries is.0.0.idles.log is.1
     ends entries Finished is = idle entries is.0.0.idles.log is.1
 
+-- a phase takes nothing from the log
+pub log_grows : {n n' : ℕ} (m m' : Meaning) (r : Result Phased Stop) → PhaseAnswers m m' n n' r → length m.log ≤ length m'.log
+log_grows m m' r a = by r a.stops
+  where
+    acted : length a.last.log ≡ length m.log + a.count
+    acted = some_more a.count m a.last a.acts
+
+    same : a.last.log ≡ m'.log → length m.log ≤ length m'.log
+    same is = let long = ap length is in omega (arith, acted, long)
+
+    ends : (entries : ℕ) (t : Turned) → Ends a.last m' a.count entries t → length m.log ≤ length m'.log
+    ends entries (Acted n) is = absurd is
+    ends entries (Ticked n) is = let one = one_more a.last m' n true is.0 in omega (arith, acted, one)
+    ends entries (Behind c n) is = same (sym is.0.0.idles.log)
+    ends entries Finished is = same (sym is.0.0.idles.log)
+
+    by : (r : Result Phased Stop) → Stops a.last m' a.count r → length m.log ≤ length m'.log
+    by (Ok p) is = ends p.entries p.end is
+    by (Err Memory) is = same (sym is.0.log)
+    by (Err Full) is = same (sym is.0.log)
+
 pub outcome_is : (a b : Result Phased Stop) → Some a ≡ Some b → a ≡ b
 outcome_is a b e = cc
 
@@ -102,7 +123,7 @@ module _ (t : TableId) (w : Work) (x y : TableWorld) (table : id_of x.shared.now
       let long = refused.1 in
       long_by t w y.seat fits_back (omega (arith, log, long))
 
--- ---- phases of all
+-- ---- stints of all
 module _ (t : TableId) (w : Work) (js js' : List Job) (many : length js' ≡ length js) (phased : HavePhased t w js js') where
   pub jobs_phased : AreJobs t w js → AreJobs t w js'
   jobs_phased are = record {

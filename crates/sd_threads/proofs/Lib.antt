@@ -2,3 +2,4 @@ pub mod AsWorld
 pub mod JobLemmas
 pub mod Listed
 pub mod Locking
+pub mod StintLemmas

@@ -1,6 +1,5 @@
 -- A seat still fits after a try to take the home of a thread, and what the try says.
 use Rattle.std.proofs.Common.{◌≡◌, ◌≢◌, ℕ, ◌+◌, ◌<◌, true, false, List, [], ◌∷◌, length, is_some, Some, None, refl, sym, ap, ◌∙◌, subst, inl, inr, arith}
-use Rattle.std.proofs.lemmas.Bool.{false≢true}
 use Rattle.std.proofs.lemmas.Bool.Decides.{nat_tests}
 use Rattle.sd_basics.proofs.Lists.{none_of}
 use Rattle.atomic_table.specs.Seated.{TableId}
@@ -13,7 +12,6 @@ use Rattle.sd_state.specs.States.{thread_of}
 use Rattle.sd_invariants.proofs.Whole.{fit_reached}
 use Rattle.sd_homes.specs.Standing.{home_of}
 use Rattle.sd_homes.specs.declared.home.Home.{Home}
-use Rattle.sd_homes.specs.Families.{home_id}
 use Rattle.sd_hand.specs.declared.acting.Acting.{Acting}
 use Rattle.sd_hand.specs.Hands.{HoldsMore, held as held_in, how_many_held}
 use Rattle.sd_world.specs.Homes.{IsNumber, IsNumberAt, index_of}

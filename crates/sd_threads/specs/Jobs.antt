@@ -1,6 +1,6 @@
--- Processors between two phases.
+-- Processors between two stints, which are phases in a row.
 -- Source: this project's own.
-use Rattle.std.specs.Prelude.{◌≡◌, ℕ, ◌<◌, Bool, true, false, List, length, map, nat_lt, Option, Some, None, Result, Ok, Err, slice_index_or, ⊤}
+use Rattle.std.specs.Prelude.{◌≡◌, ℕ, ◌<◌, ◌≤◌, Bool, true, false, List, length, map, nat_lt, Option, Some, None, Result, Ok, Err, slice_index_or, ⊤}
 use Rattle.atomic_table.specs.Seated.{TableId}
 use Rattle.sd_types.specs.declared.events.Stop.{Stop}
 use Rattle.sd_types.specs.declared.events.Stop.TheVariants.{Full}
@@ -21,12 +21,12 @@ pub record IsEmptyHanded (t : TableId) (w : Work) (s : Seat) : Type 0 where
 abbrev pub made_some : Phased → Bool
 made_some p = nat_lt 0 p.entries
 
--- where a phase was not refused, it made entries exactly where the log has more of them after it
+-- where a phase or a stint was not refused, it made entries exactly where the log has more of them after it
 abbrev pub MadeAsLogged : ℕ → ℕ → Result Phased Stop → Type 0
 MadeAsLogged before after (Ok p) = made_some p ≡ nat_lt before after
 MadeAsLogged before after (Err stop) = ⊤
 
--- the processor had a phase: it holds no home again, and was refused for its length only where a run is that long
+-- the processor had a phase, or a stint: it holds no home again, its log is no shorter, and it was refused for its length only where a run is that long
 pub record HasPhased (t : TableId) (w : Work) (j j' : Job) : Type 0 where
   pub free : IsEmptyHanded t w j'.seat
   pub cpu : j'.seat.acting.actor.cpu ≡ j.seat.acting.actor.cpu
@@ -34,6 +34,7 @@ pub record HasPhased (t : TableId) (w : Work) (j j' : Job) : Type 0 where
   pub answered : j'.outcome ≡ Some answer
   pub full : j'.outcome ≡ Some (Err Full) → IsLongRun w
   pub made : MadeAsLogged (length j.seat.log.items) (length j'.seat.log.items) answer
+  pub grows : length j.seat.log.items ≤ length j'.seat.log.items
 
 abbrev pub HavePhased : TableId → Work → List Job → List Job → Type 0
 HavePhased t w js js' = (i : ℕ) (d : Job) → i < length js → HasPhased t w (slice_index_or js i d) (slice_index_or js' i d)
@@ -52,12 +53,12 @@ pub record WasStopped (js : List Job) (stop : Stop) : Type 0 where
   pub at : (d : Job) → slice_index_or js index d ≡ job
   pub stopped : job.outcome ≡ Some (Err stop)
 
--- its last phase made entries
+-- its last stint made entries
 abbrev pub HasActed : Option (Result Phased Stop) → Type 0
 HasActed (Some (Ok p)) = made_some p ≡ true
 HasActed _ = ⊥
 
--- its last phase was not refused, and made none
+-- its last stint was not refused, and made none
 abbrev pub HasRested : Option (Result Phased Stop) → Type 0
 HasRested (Some (Err stop)) = ⊥
 HasRested (Some (Ok p)) = made_some p ≡ false
@@ -83,7 +84,7 @@ AllTell js n false = (i : ℕ) (d : Job) → i < n → HasRested (slice_index_or
 abbrev pub seats_in : List Job → List Seat
 seats_in js = map (λ j. j.seat) js
 
--- the last phase of each processor was not refused and made no entry: its log is as long as before
+-- the last stint of each processor was not refused and made no entry: its log is as long as before
 pub record AreAtRest (t : TableId) (w : Work) (js' : List Job) : Type 0 where
   pub before : List Job
   pub many : length js' ≡ length before

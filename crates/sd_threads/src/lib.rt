@@ -1,12 +1,12 @@
-//! The run of a workload whose processors are threads of the host: they share a table of homes in phases, and rounds on one thread show
+//! The run of a workload whose processors are threads of the host: they share a table of homes in stints, and rounds on one thread show
 //! that nothing is left to do.
 //!
 //! Source: this project's own.
 #![tactic(auto)]
 
 mod jobs;
-mod phases;
 mod run;
+mod stints;
 mod threads;
 mod world;
 

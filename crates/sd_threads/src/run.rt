@@ -1,4 +1,4 @@
-//! The whole run: the table is opened, phases follow one another, it is closed, and rounds end the run.
+//! The whole run: the table is opened, stints follow one another, it is closed, and rounds end the run.
 
 ghost use Rattle.std.specs.Prelude.{◌≡◌, ℕ, ◌<◌, ◌≤◌, length, map, IfErr, IfOk, IsErrOf};
 ghost use Rattle.sd_machine.specs.Runs.{IsComplete, IsRun, final, state_at};
@@ -8,7 +8,7 @@ ghost use Rattle.sd_rounds.specs.Rounds.{IsLongRun};
 ghost use Rattle.sd_threads.specs.Jobs.{seats_in};
 
 use crate::jobs::Job;
-use crate::phases::run_phases;
+use crate::stints::run_to_rest;
 use sd_cpu::Gate;
 use sd_rounds::{Finished, run_to_end};
 use sd_shared_table::{Seat, Shared};
@@ -17,7 +17,7 @@ use std::alloc::{AllocError, Global};
 use std::sync::Wait;
 use std::thread::Threads;
 
-/// The processors before their first phases.
+/// The processors before their first stints.
 fn jobs_of(alloc: Global, seats: Vec<Seat>) -> Result<Vec<Job>, AllocError>
     ensures { IfOk result (λ v. seats_in v.items ≡ seats.items) }
 {
@@ -32,7 +32,7 @@ fn jobs_of(alloc: Global, seats: Vec<Seat>) -> Result<Vec<Job>, AllocError>
     Ok(jobs)
 }
 
-/// Their seats, after their last phases.
+/// Their seats, after their last stints.
 fn seats_of(alloc: Global, jobs: Vec<Job>) -> Result<Vec<Seat>, AllocError>
     ensures { IfOk result (λ v. v.items ≡ seats_in jobs.items) }
 {
@@ -77,7 +77,7 @@ pub fn run_on_threads<R: Threads + Wait + Sync, G: Gate + Sync>(
     let Ok(jobs) = jobs_of(alloc, seats) else {
         return Err(Stop::Memory);
     };
-    let jobs = run_phases(rt, gate, &shared, work, jobs)?;
+    let jobs = run_to_rest(rt, gate, &shared, work, jobs)?;
     let Ok(turns) = turns_of(alloc, &jobs) else {
         return Err(Stop::Memory);
     };

@@ -1,4 +1,4 @@
-use Rattle.std.proofs.Common.{◌≡◌, length, refl, sym, ap, ◌∙◌, subst}
+use Rattle.std.proofs.Common.{◌≡◌, ◌≤◌, length, refl, sym, ap, ◌∙◌, subst}
 use Rattle.sd_hand.specs.Hands.{how_many_held}
 use Rattle.sd_shared_table.specs.declared.seat.Seat.{Seat}
 use Rattle.sd_shared_table.specs.Seats.{id_of, work_of}
@@ -32,6 +32,8 @@ returns g c =
         answered = refl;
         made = subst (λ (s : Seat). MadeAsLogged (length s.log.items) (length c.into_seat.result.log.items) c.phase-outcome.result) c.new-world.ensures.seat
             (subst (λ (s : Seat). MadeAsLogged (length x.seat.log.items) (length s.log.items) c.phase-outcome.result) (sym same) made);
+        grows = subst (λ (s : Seat). length s.log.items ≤ length c.into_seat.result.log.items) c.new-world.ensures.seat
+            (subst (λ (s : Seat). length x.seat.log.items ≤ length s.log.items) (sym same) (J.log_grows (world_meaning x) (world_meaning y) c.phase-outcome.result e.answers));
         full = λ refused. J.full_long t w x y table work c.new-world.ensures.good e.good e.world c.phase-outcome.result (J.outcome_is c.phase-outcome.result _ refused) e.answers;
       };
     }

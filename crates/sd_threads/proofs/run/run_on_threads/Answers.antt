@@ -6,8 +6,8 @@ use Rattle.sd_shared_table.specs.Whole.{AreSeats}
 use Rattle.sd_threads.proofs.JobLemmas.{jobs_begin, seats_end}
 use Rattle.sd_threads.proofs.run.run_on_threads.Goals as goal
 
-pub run_phases-requires-clause-jobs : goal.run_phases-requires-clause-jobs
-run_phases-requires-clause-jobs g c κs lives =
+pub run_to_rest-requires-clause-jobs : goal.run_to_rest-requires-clause-jobs
+run_to_rest-requires-clause-jobs g c κs lives =
     jobs_begin (id_of c.in-Ok.shared) c.args.work.now c.in-Ok.seats.items c.in-Ok-jobs_of.jobs.items c.in-Ok-jobs_of.ensures c.in-Ok.ensures.seats
 
 pub close-requires-clause-seats : goal.close-requires-clause-seats

@@ -1,6 +1,6 @@
 use Rattle.sd_shared_table.specs.Seats.{id_of}
 use Rattle.sd_threads.specs.Jobs.{AreJobs}
-use Rattle.sd_threads.proofs.phases.run_phases.Given as goal
+use Rattle.sd_threads.proofs.stints.run_to_rest.Given as goal
 
 abbrev pub invariant-loop : goal.invariant-loop
 invariant-loop g l = record {

@@ -4,13 +4,13 @@ use Rattle.sd_shared_table.specs.Seats.{id_of}
 use Rattle.sd_threads.specs.declared.jobs.Job.{Job}
 use Rattle.sd_threads.specs.Jobs.{WasStopped}
 use Rattle.sd_threads.proofs.JobLemmas as J
-use Rattle.sd_threads.proofs.phases.run_phases.Goals as goal
+use Rattle.sd_threads.proofs.stints.run_to_rest.Goals as goal
 
 pub loop-init : goal.loop-init
 loop-init g c = record { can = search rules; ends = search rules; jobs = c.requires.jobs }
 
-pub run_phase-requires-clause-free : goal.run_phase-requires-clause-free
-run_phase-requires-clause-free g c κs lives = λ k d inside. c.loop.invariant.jobs.free k d inside
+pub run_stint-requires-clause-free : goal.run_stint-requires-clause-free
+run_stint-requires-clause-free g c κs lives = λ k d inside. c.loop.invariant.jobs.free k d inside
 
 pub returns-in-Err-have_acted-clause-full : goal.returns-in-Err-have_acted-clause-full
 returns-in-Err-have_acted-clause-full g c = λ is.

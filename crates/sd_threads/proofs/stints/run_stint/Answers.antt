@@ -2,7 +2,7 @@ use Rattle.std.proofs.Common.{Result, Ok, Err, sym, subst}
 use Rattle.std.specs.Prelude.{IfOk, slice_index_or}
 use Rattle.sd_shared_table.specs.Seats.{id_of}
 use Rattle.sd_threads.specs.Jobs.{HasPhased}
-use Rattle.sd_threads.proofs.phases.run_phase.Goals as goal
+use Rattle.sd_threads.proofs.stints.run_stint.Goals as goal
 
 if_ok : {A E : Type 0} {P Q : A → Type 0} → (r : Result A E) → ((x : A) → P x → Q x) → IfOk r P → IfOk r Q
 if_ok (Ok x) f h = f x h

@@ -1,4 +1,4 @@
-//! Phases of all processors side by side, until one makes no entry.
+//! Stints of all processors side by side, until they make no entry.
 
 ghost use Rattle.std.specs.Prelude.{◌≡◌, length, Some, Err, IfErr, IfOk, IsErrOf};
 ghost use Rattle.std.specs.List.{All};
@@ -6,7 +6,7 @@ ghost use Rattle.sd_rounds.specs.Rounds.{IsLongRun};
 ghost use Rattle.sd_shared_table.specs.Seats.{id_of, work_of};
 ghost use Rattle.sd_threads.specs.Jobs.{AllTell, AreAtRest, AreJobs, HasPhased, HavePhased, IsEmptyHanded, Tells, WasStopped};
 
-use crate::jobs::{Job, phase_of};
+use crate::jobs::{Job, stint_of};
 use sd_cpu::Gate;
 use sd_shared_table::Shared;
 use sd_types::{Stop, Work};
@@ -15,9 +15,9 @@ use std::sync::Wait;
 use std::thread;
 use std::thread::Threads;
 
-/// One phase of each processor, each on a thread of its own where one can be made, and else one after another. `Err` only where memory
+/// One stint of each processor, each on a thread of its own where one can be made, and else one after another. `Err` only where memory
 /// runs out.
-fn run_phase<R: Threads + Wait + Sync, G: Gate + Sync>(
+fn run_stint<R: Threads + Wait + Sync, G: Gate + Sync>(
     rt: &R,
     gate: &G,
     shared: &Shared,
@@ -35,11 +35,11 @@ fn run_phase<R: Threads + Wait + Sync, G: Gate + Sync>(
         &|job: Job| -> Job
             requires { (work.now ≡ work_of shared.now) × IsEmptyHanded (id_of shared.now) work.now job.seat }
             ensures { HasPhased (id_of shared.entry.now) work.entry.now job result }
-        { phase_of(rt, gate, shared, work, job) },
+        { stint_of(rt, gate, shared, work, job) },
     )
 }
 
-/// Whether a processor has made entries in its last phase. `Err` where it was refused.
+/// Whether a processor has made entries in its last stint. `Err` where it was refused.
 fn has_acted(job: &Job) -> Result<bool, Stop>
     ensures told { IfOk result (λ acted. Tells job.now.outcome acted) }
     ensures stopped { IfErr result (λ stop. job.now.outcome ≡ Some (Err stop)) }
@@ -53,7 +53,7 @@ fn has_acted(job: &Job) -> Result<bool, Stop>
     }
 }
 
-/// Whether any of these processors has made entries in its last phase. `Err` where one was refused: what the first of them was.
+/// Whether any of these processors has made entries in its last stint. `Err` where one was refused: what the first of them was.
 fn have_acted(jobs: &[Job]) -> Result<bool, Stop>
     ensures told { IfOk result (λ acted. AllTell jobs.now (length jobs.now) acted) }
     ensures stopped { IfErr result (λ stop. WasStopped jobs.now stop) }
@@ -68,8 +68,8 @@ fn have_acted(jobs: &[Job]) -> Result<bool, Stop>
     Ok(acted)
 }
 
-/// Phases of all processors, until one makes no entry. `Full` only where a run of the workload has 2^40 entries or more.
-pub(crate) fn run_phases<R: Threads + Wait + Sync, G: Gate + Sync>(
+/// Stints of all processors, until none makes an entry. `Full` only where a run of the workload has 2^40 entries or more.
+pub(crate) fn run_to_rest<R: Threads + Wait + Sync, G: Gate + Sync>(
     rt: &R,
     gate: &G,
     shared: &Shared,
@@ -84,7 +84,7 @@ pub(crate) fn run_phases<R: Threads + Wait + Sync, G: Gate + Sync>(
 {
     let mut jobs = jobs;
     for _ in rt.forever() {
-        match run_phase(rt, gate, shared, work, jobs) {
+        match run_stint(rt, gate, shared, work, jobs) {
             Err(_) => return Err(Stop::Memory),
             Ok(done) => match have_acted(&done) {
                 Err(stop) => return Err(stop),
