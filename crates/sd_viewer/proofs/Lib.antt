@@ -1,3 +1,4 @@
 pub mod ClosingLemmas
+pub mod ForeseenLemmas
 pub mod GlimpseLemmas
 pub mod ViewLemmas

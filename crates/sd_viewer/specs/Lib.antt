@@ -1,4 +1,5 @@
 pub mod Drawings
+pub mod Foreseen
 pub mod Forms
 pub mod Gathering
 pub mod Glimpses

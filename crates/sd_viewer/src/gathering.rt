@@ -6,6 +6,7 @@ ghost use Rattle.sd_audit.specs.Audits.{IsFault};
 ghost use Rattle.sd_stretches.specs.Histories.{IsHistory};
 ghost use Rattle.sd_viewer.specs.Gathering.{IsGathered};
 
+use crate::foreseen::foresee;
 use crate::glimpses::glimpse_of;
 use sd_audit::{AuditFault, Collector, Judged, audit_collecting};
 use sd_homes_replay::step;
@@ -32,8 +33,10 @@ impl Collector for Historian {
         world: &mut PlainWorld<'_>,
         entry: &Entry,
     ) -> Result<bool, AllocError> {
+        let foreseen = foresee(work, world, &entry.event);
         if step(work, world, entry)? {
-            self.history.add(&glimpse_of(work, world, entry), entry)?;
+            let glimpse = glimpse_of(work, world, entry, foreseen);
+            self.history.add(&glimpse, entry)?;
             Ok(true)
         } else {
             Ok(false)

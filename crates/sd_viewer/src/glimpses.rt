@@ -1,9 +1,10 @@
 //! What is seen of the state that an entry made, looked up in the homes of the run, where its threads stand: no look goes over all
 //! threads.
 
-ghost use Rattle.std.specs.Prelude.{◌≡◌, ◌<◌, slice_get};
+ghost use Rattle.std.specs.Prelude.{◌≡◌, ◌<◌, IfSome, Some, slice_get};
 ghost use Rattle.sd_state.specs.States.{thread_of};
 ghost use Rattle.sd_machine.specs.Threads.{runner};
+ghost use Rattle.sd_frames.specs.Altered.{altered as altered_in};
 ghost use Rattle.sd_stretches.specs.Altered.{sight_among};
 ghost use Rattle.sd_stretches.specs.Changes.{is_above_base, owner_of, waker_of};
 ghost use Rattle.sd_stretches.specs.Glimpses.{above_base_by, glimpse_of, greatest_by, waker_by};
@@ -68,6 +69,23 @@ fn sight_among(work: &Work, world: &PlainWorld, altered: Option<usize>) -> Optio
     match altered {
         Some(t) => sight_in(work, world, t),
         None => None,
+    }
+}
+
+// The same, where it may have been foreseen.
+fn altered_sight(
+    work: &Work,
+    world: &PlainWorld,
+    event: &Event,
+    foreseen: Option<Sight>,
+) -> Option<Sight>
+    requires stands { Stands work.now world.now }
+    requires foreseen { IfSome foreseen (λ x. sight_among (altered_in event.now) (sights_of (told work.now world.now)) ≡ Some x) }
+    ensures { result ≡ sight_among (altered_in event.now) (sights_of (told work.now world.now)) }
+{
+    match foreseen {
+        Some(sight) => Some(sight),
+        None => sight_among(work, world, altered(event)),
     }
 }
 
@@ -159,16 +177,22 @@ fn owner_of(work: &Work, world: &PlainWorld, wanted: Option<LockId>) -> Option<T
     }
 }
 
-/// What is seen of the state that the entry made, as far as a history takes it in.
-pub(crate) fn glimpse_of(work: &Work, world: &PlainWorld, entry: &Entry) -> Glimpse
+/// What is seen of the state that the entry made, as far as a history takes it in. What was foreseen of its thread is not looked up again.
+pub(crate) fn glimpse_of(
+    work: &Work,
+    world: &PlainWorld,
+    entry: &Entry,
+    foreseen: Option<Sight>,
+) -> Glimpse
     requires stands { Stands work.now world.now }
+    requires foreseen { IfSome foreseen (λ x. sight_among (altered_in entry.now.event) (sights_of (told work.now world.now)) ≡ Some x) }
     requires cpu { entry.now.cpu.0 < work.now.cpus }
     ensures { result ≡ glimpse_of (told work.now world.now) entry.now }
 {
     let event = &entry.event;
     Glimpse {
         tick: count_of(work, world, entry.cpu),
-        sight: sight_among(work, world, altered(event)),
+        sight: altered_sight(work, world, event, foreseen),
         greatest: greatest_by(work, world, event),
         above_base: above_base_by(work, world, event),
         waker: waker_by(work, world, entry.cpu, event, woken_by(event)),

@@ -3,6 +3,7 @@
 #![tactic(auto)]
 
 mod drawings;
+mod foreseen;
 mod forms;
 mod frames;
 mod gathering;
