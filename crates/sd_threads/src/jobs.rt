@@ -6,14 +6,11 @@ ghost use Rattle.sd_shared_table.specs.Seats.{id_of, work_of};
 ghost use Rattle.sd_threads.specs.Jobs.{HasPhased, IsEmptyHanded};
 
 use crate::TableWorld;
+use crate::patience::Patience;
 use sd_cpu::{Gate, Phased, Turned, phase};
 use sd_shared_table::{Seat, Shared};
 use sd_types::{Stop, Work};
 use std::sync::Wait;
-use std::thread::yield_now;
-
-/// A stint ends after so many phases in a row without an entry: others may be long in coming, and the thread may be needed for them.
-const MAX_IDLE_PHASES: u32 = 1_000;
 
 /// A processor between two stints: its seat, the number of its next turn, and what its last stint answered, before the first `None`.
 #[derive(Drop)]
@@ -44,24 +41,6 @@ fn phase_of<R: Wait, G: Gate>(rt: &R, gate: &G, shared: &Shared, work: &Work, jo
     }
 }
 
-// How many phases in a row made no entry, with this one. After such a phase the thread lets others of the host go first: the processor waits
-// for a tick of theirs.
-fn count_idle(idle: u32, phased: Phased) -> u32 {
-    if phased.entries > 0 {
-        return 0;
-    }
-    yield_now();
-    idle.saturating_add(1)
-}
-
-// The processor has counted its ticks and has nothing else to do, or has waited for long.
-fn has_come_to_rest(phased: Phased, idle: u32) -> bool {
-    match phased.end {
-        Turned::Finished => true,
-        _ => idle >= MAX_IDLE_PHASES,
-    }
-}
-
 // The same processor, with the answer of all its phases.
 fn answering(job: Job, entries: u64, end: Turned) -> Job
     ensures seat { result.seat ≡ job.seat }
@@ -75,7 +54,7 @@ fn answering(job: Job, entries: u64, end: Turned) -> Job
     }
 }
 
-/// A stint of a processor: phases in a row, until one is refused, or finds all ticks counted and nothing to do, or many have made no entry. It
+/// A stint of a processor: phases in a row, until one is refused, or its patience is over (`Patience`). It
 /// answers how many entries they made together, and how the last one ended. At its end the processor holds no home.
 pub(crate) fn stint_of<R: Wait, G: Gate>(
     rt: &R,
@@ -90,7 +69,7 @@ pub(crate) fn stint_of<R: Wait, G: Gate>(
 {
     let mut going = job;
     let mut entries = 0u64;
-    let mut idle = 0u32;
+    let mut patience = Patience::first();
     for _ in rt.forever() {
         let done = phase_of(rt, gate, shared, work, going);
         match done.outcome {
@@ -99,8 +78,8 @@ pub(crate) fn stint_of<R: Wait, G: Gate>(
                 Err(_) => return done,
                 Ok(phased) => {
                     entries = entries.saturating_add(phased.entries);
-                    idle = count_idle(idle, phased);
-                    if has_come_to_rest(phased, idle) {
+                    patience = patience.after(rt, phased);
+                    if patience.is_over(phased) {
                         return answering(done, entries, phased.end);
                     }
                     going = done;

@@ -5,6 +5,7 @@
 #![tactic(auto)]
 
 mod jobs;
+mod patience;
 mod run;
 mod stints;
 mod threads;

@@ -16,8 +16,8 @@ returns-in-Err g c =
     let is = c.in-Some-outcome.is ∙ ap Some c.in-Err.is in
     record { phased = S.refused t w c.args.job c.loop.going c.phase_of-done.result c.loop.entries c.loop.invariant.led c.phase_of-done.ensures.phased _ is }
 
-pub returns-then-has_come_to_rest : goal.returns-then-has_come_to_rest
-returns-then-has_come_to_rest g c =
+pub returns-then-is_over : goal.returns-then-is_over
+returns-then-is_over g c =
     let t = id_of c.args.shared.now in
     let w = c.args.work.now in
     let is = c.in-Some-outcome.is ∙ ap Some c.in-Ok.is in
