@@ -3,7 +3,7 @@
 use crate::accounts::{wrong_places, wrong_run};
 use crate::audits::wrong_verdict;
 use crate::drawings::{wrong_drawing, wrong_story};
-use crate::reports::wrong_report;
+use crate::reports::{wrong_jobs, wrong_report};
 use crate::sentences::{Half, wrong_sentence};
 use crate::{accounts, audits, drawings, reports, sentences};
 use arrayvec::ArrayVec;
@@ -22,6 +22,7 @@ pub enum Judged {
     Drawings,
     Stories,
     Report,
+    Jobs,
     EarlySentences,
     LateSentences,
 }
@@ -33,6 +34,7 @@ fn workload_of(judged: Judged) -> &'static [u8] {
         Judged::Journals => audits::WORK,
         Judged::Drawings | Judged::Stories => drawings::WORKLOAD,
         Judged::Report => reports::WORKLOAD,
+        Judged::Jobs => reports::JOBS_WORKLOAD,
         Judged::EarlySentences | Judged::LateSentences => sentences::NAMED,
     }
 }
@@ -50,6 +52,7 @@ fn wrong_in(
         Judged::Drawings => Ok(wrong_drawing(alloc, work)),
         Judged::Stories => Ok(wrong_story(alloc, work)),
         Judged::Report => wrong_report(alloc, work),
+        Judged::Jobs => wrong_jobs(alloc, work),
         Judged::EarlySentences => wrong_sentence(alloc, work, Half::Early),
         Judged::LateSentences => wrong_sentence(alloc, work, Half::Late),
     }

@@ -1,9 +1,10 @@
 -- Which bytes reports are made of.
 use Rattle.std.proofs.Common.{◌≡◌, ℕ, zero, suc, ◌-◌, List, [], ◌++◌, length, Option, Some, None, refl}
-use Rattle.std.specs.Prelude.{◌==◌, codes}
+use Rattle.std.specs.Prelude.{◌==◌, ◌||◌, codes, nat_le}
 use Rattle.std.specs.List.{flat_map}
 use Rattle.std.proofs.lemmas.List.Folds.{list_all-append}
 use Rattle.sd_types.specs.declared.works.Work.{Work}
+use Rattle.sd_state.specs.declared.states.State.{State}
 use Rattle.sd_stretches.specs.declared.histories.History.{History}
 use Rattle.sd_stretches.specs.Plain.{is_text_byte, IsText}
 use Rattle.sd_stretches.proofs.TextLemmas.{chan-text, decimal-text, either-text, flat-text, lock-text, thread-text}
@@ -18,12 +19,12 @@ use Rattle.sd_statistics.specs.declared.rows.Subject.{Subject}
 use Rattle.sd_statistics.specs.declared.rows.Subject.TheVariants as subject
 use Rattle.sd_statistics.specs.declared.spans.Span.{Span}
 use Rattle.sd_statistics.specs.Cpus.{cpu_rows}
-use Rattle.sd_statistics.specs.Jobs.{task_rows}
 use Rattle.sd_statistics.specs.Locks.{lock_rows}
+use Rattle.sd_statistics.specs.Tasks.{task_rows}
 use Rattle.sd_statistics.specs.Threads.{thread_rows}
 use Rattle.sd_report.specs.Cells.{blanks, cell, left, right}
 use Rattle.sd_report.specs.Words.{activity_object, activity_word, deed_word, holder_by, measure_object, measure_word, object_by, row_object, subject_name}
-use Rattle.sd_report.specs.Tables.{by_text, cpu_section, head_line, lock_section, longest_cells, report_text, row_cells, row_words, section, table_line, task_section, thread_section, ticks_line}
+use Rattle.sd_report.specs.Tables.{by_text, cpu_section, head_line, lock_section, longest_cells, report_text, row_cells, row_words, section, skew_line, table_line, task_section, tasks_part, thread_section, ticks_line}
 
 -- ---- cells
 
@@ -136,15 +137,25 @@ head-text : IsText head_line
 unfolding head_line left right
 head-text = refl
 
-pub report-text : (w : Work) (h : History) → IsText (report_text w h)
+skew-text : (w : Work) (rows : List Row) → IsText (skew_line w rows)
+unfolding skew_line
+skew-text w rows =
+    either-text (nat_le w.cpus 1 || length rows == 0) []
+    (codes "a task that is not bound: each time a job comes to another processor, its response may become a tick more or less\n") refl refl
+
+tasks-text : (w : Work) (rows : List Row) → IsText (tasks_part w rows)
+unfolding tasks_part
+tasks-text w rows = simp (list_all-append is_text_byte, lines-text w rows (codes "\ntasks\n") refl, skew-text w rows)
+
+pub report-text : (w : Work) (h : History) (s : State) → IsText (report_text w h s)
 unfolding report_text thread_section task_section lock_section cpu_section
-report-text w h =
+report-text w h s =
     simp (
       list_all-append is_text_byte,
       ticks-text w h,
       head-text,
       lines-text w (thread_rows w h) (codes "\nthreads\n") refl,
-      lines-text w (task_rows w h) (codes "\ntasks\n") refl,
+      tasks-text w (task_rows w h s),
       lines-text w (lock_rows w h) (codes "\nlocks\n") refl,
       lines-text w (cpu_rows w h) (codes "\nprocessors\n") refl,
     )

@@ -5,11 +5,12 @@ use Rattle.std.specs.List.{flat_map}
 use Rattle.csv.specs.Records.{Row as Record, fields_of, partial_of}
 use Rattle.csv.specs.Writing.{default_writer, row_text}
 use Rattle.sd_types.specs.declared.works.Work.{Work}
+use Rattle.sd_state.specs.declared.states.State.{State}
 use Rattle.sd_stretches.specs.declared.histories.History.{History}
 use Rattle.sd_statistics.specs.declared.rows.Row.{Row}
 use Rattle.sd_statistics.specs.Cpus.{cpu_rows}
-use Rattle.sd_statistics.specs.Jobs.{task_rows}
 use Rattle.sd_statistics.specs.Locks.{lock_rows}
+use Rattle.sd_statistics.specs.Tasks.{task_rows}
 use Rattle.sd_statistics.specs.Threads.{thread_rows}
 use Rattle.sd_text.specs.Numbers.{digits_if}
 use Rattle.sd_report.specs.Words.{holder, measure_word, row_object, subject_name, subject_word}
@@ -45,8 +46,8 @@ rows_text w rows = flat_map (sheet_row w) rows
 unfoldable pub thread_sheet : Work → History → List ℕ
 thread_sheet w h = rows_text w (thread_rows w h)
 
-unfoldable pub task_sheet : Work → History → List ℕ
-task_sheet w h = rows_text w (task_rows w h)
+unfoldable pub task_sheet : Work → History → State → List ℕ
+task_sheet w h s = rows_text w (task_rows w h s)
 
 unfoldable pub lock_sheet : Work → History → List ℕ
 lock_sheet w h = rows_text w (lock_rows w h)
@@ -54,5 +55,6 @@ lock_sheet w h = rows_text w (lock_rows w h)
 unfoldable pub cpu_sheet : Work → History → List ℕ
 cpu_sheet w h = rows_text w (cpu_rows w h)
 
-unfoldable pub sheet_text : Work → History → List ℕ
-sheet_text w h = head_row ++ thread_sheet w h ++ task_sheet w h ++ lock_sheet w h ++ cpu_sheet w h
+-- of a run with this history and this last state
+unfoldable pub sheet_text : Work → History → State → List ℕ
+sheet_text w h s = head_row ++ thread_sheet w h ++ task_sheet w h s ++ lock_sheet w h ++ cpu_sheet w h

@@ -1,15 +1,16 @@
 -- The report as a table.
 -- Source: this project's own.
-use Rattle.std.specs.Prelude.{ℕ, ◌==◌, List, [], ◌++◌, length, codes, decimal, Option, Some, None, if◌then◌else◌}
+use Rattle.std.specs.Prelude.{ℕ, ◌==◌, ◌||◌, nat_le, List, [], ◌++◌, length, codes, decimal, Option, Some, None, if◌then◌else◌}
 use Rattle.std.specs.List.{flat_map}
 use Rattle.sd_types.specs.declared.works.Work.{Work}
+use Rattle.sd_state.specs.declared.states.State.{State}
 use Rattle.sd_stretches.specs.declared.histories.History.{History}
 use Rattle.sd_statistics.specs.declared.rows.Row.{Row}
 use Rattle.sd_statistics.specs.declared.spans.Span.{Span}
 use Rattle.sd_statistics.specs.Cpus.{cpu_rows}
-use Rattle.sd_statistics.specs.Jobs.{task_rows}
 use Rattle.sd_statistics.specs.Locks.{lock_rows}
 use Rattle.sd_statistics.specs.Spans.{ticks_of}
+use Rattle.sd_statistics.specs.Tasks.{task_rows}
 use Rattle.sd_statistics.specs.Threads.{thread_rows}
 use Rattle.sd_report.specs.Cells.{cell, left, right}
 use Rattle.sd_report.specs.Words.{holder, measure_word, row_object, subject_name}
@@ -59,8 +60,17 @@ ticks_line w h = (codes "ticks " ++ decimal w.limit) ++ (codes ", entries " ++ d
 unfoldable pub thread_section : Work → History → List ℕ
 thread_section w h = section w (codes "\nthreads\n") (thread_rows w h)
 
-unfoldable pub task_section : Work → History → List ℕ
-task_section w h = section w (codes "\ntasks\n") (task_rows w h)
+-- on several processors: what their counts mean for tasks
+unfoldable pub skew_line : Work → List Row → List ℕ
+skew_line w rows =
+    if nat_le w.cpus 1 || length rows == 0 then []
+    else codes "a task that is not bound: each time a job comes to another processor, its response may become a tick more or less\n"
+
+unfoldable pub tasks_part : Work → List Row → List ℕ
+tasks_part w rows = section w (codes "\ntasks\n") rows ++ skew_line w rows
+
+unfoldable pub task_section : Work → History → State → List ℕ
+task_section w h s = tasks_part w (task_rows w h s)
 
 unfoldable pub lock_section : Work → History → List ℕ
 lock_section w h = section w (codes "\nlocks\n") (lock_rows w h)
@@ -68,6 +78,6 @@ lock_section w h = section w (codes "\nlocks\n") (lock_rows w h)
 unfoldable pub cpu_section : Work → History → List ℕ
 cpu_section w h = section w (codes "\nprocessors\n") (cpu_rows w h)
 
--- the report
-unfoldable pub report_text : Work → History → List ℕ
-report_text w h = ticks_line w h ++ head_line ++ thread_section w h ++ task_section w h ++ lock_section w h ++ cpu_section w h
+-- the report of a run with this history and this last state
+unfoldable pub report_text : Work → History → State → List ℕ
+report_text w h s = ticks_line w h ++ head_line ++ thread_section w h ++ task_section w h s ++ lock_section w h ++ cpu_section w h

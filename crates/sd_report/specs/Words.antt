@@ -8,7 +8,7 @@ use Rattle.sd_statistics.specs.declared.activities.Activity.TheVariants.{Running
 use Rattle.sd_statistics.specs.declared.cpus.Deed.{Deed}
 use Rattle.sd_statistics.specs.declared.cpus.Deed.TheVariants.{Runs, Spins, Idles, Dispatches, Steals, Preempts}
 use Rattle.sd_statistics.specs.declared.rows.Measure.{Measure}
-use Rattle.sd_statistics.specs.declared.rows.Measure.TheVariants.{Does, Twice, WakeupToRun, Inherits, Makes, Held, Contended, HandsOn, Responds}
+use Rattle.sd_statistics.specs.declared.rows.Measure.TheVariants.{Does, Twice, WakeupToRun, Inherits, Makes, Held, Contended, HandsOn, Responds, Unfinished}
 use Rattle.sd_statistics.specs.declared.rows.Row.{Row}
 use Rattle.sd_statistics.specs.declared.rows.Subject.{Subject}
 use Rattle.sd_statistics.specs.declared.rows.Subject.TheVariants.{Thread, Cpu, Lock, Task}
@@ -57,6 +57,7 @@ measure_word Held = codes "held"
 measure_word Contended = codes "contended"
 measure_word HandsOn = codes "hands on"
 measure_word Responds = codes "response"
+measure_word Unfinished = codes "unfinished"
 
 abbrev pub activity_object : Work → Activity → List ℕ
 activity_object w (SpinningFor l) = lock_name w l.0

@@ -12,6 +12,7 @@ use crate::cells::digits_if;
 use crate::tables::{longest_first, longest_last, longest_ticks};
 use crate::words::{holder, measure_word, put_subject_name, row_object, subject_word};
 use csv::{ByteRecord, Error, WriterBuilder};
+use sd_state::State;
 use sd_statistics::{Row, cpu_rows, lock_rows, task_rows, thread_rows};
 use sd_stretches::ByThread;
 use sd_types::Work;
@@ -141,11 +142,12 @@ fn put_tasks(
     alloc: Global,
     work: &Work,
     history: &ByThread,
+    end: &State,
     out: &mut Vec<u8>,
 ) -> Result<(), AllocError>
-    ensures { OnOk result (out.new.items ≡ out.old.items ++ task_sheet work.now history.now) }
+    ensures { OnOk result (out.new.items ≡ out.old.items ++ task_sheet work.now history.now end.now) }
 {
-    let rows = task_rows(alloc, work, &history.history)?;
+    let rows = task_rows(alloc, work, &history.history, end)?;
     put_rows(alloc, work, &rows, out)
 }
 
@@ -175,16 +177,21 @@ fn put_cpus(
     put_rows(alloc, work, &rows, out)
 }
 
-/// The report of a run of the workload, of which this is the history, as comma-separated rows: the names of the fields,
-/// and a record for each row of the statistics. A field that has nothing to say is empty.
+/// The report of a run of the workload, of which this is the history, and which ends in this state, as comma-separated rows: the
+/// names of the fields, and a record for each row of the statistics. A field that has nothing to say is empty.
 #[tactic(auto, unfolding(crate::specs::Sheets::sheet_text))]
-pub fn sheet(alloc: Global, work: &Work, history: &ByThread) -> Result<Vec<u8>, AllocError>
-    ensures { IfOk result (λ text. text.items ≡ sheet_text work.now history.now) }
+pub fn sheet(
+    alloc: Global,
+    work: &Work,
+    history: &ByThread,
+    end: &State,
+) -> Result<Vec<u8>, AllocError>
+    ensures { IfOk result (λ text. text.items ≡ sheet_text work.now history.now end.now) }
 {
     let mut text = Vec::new(alloc);
     put_head(&mut text)?;
     put_threads(alloc, work, history, &mut text)?;
-    put_tasks(alloc, work, history, &mut text)?;
+    put_tasks(alloc, work, history, end, &mut text)?;
     put_locks(alloc, work, history, &mut text)?;
     put_cpus(alloc, work, history, &mut text)?;
     Ok(text)

@@ -3,11 +3,12 @@
 ghost use Rattle.std.specs.Prelude.{◌≡◌, ◌++◌, IfOk, OnOk, codes, decimal};
 ghost use Rattle.std.specs.List.{flat_map};
 ghost use Rattle.sd_report.specs.Cells.{left};
-ghost use Rattle.sd_report.specs.Tables.{by_text, cpu_section, head_line, lock_section, longest_cells, longest_first, longest_last, longest_ticks, report_text, row_cells, row_words, section, table_line, task_section, thread_section, ticks_line};
+ghost use Rattle.sd_report.specs.Tables.{by_text, cpu_section, head_line, lock_section, longest_cells, longest_first, longest_last, longest_ticks, report_text, row_cells, row_words, section, skew_line, table_line, task_section, tasks_part, thread_section, ticks_line};
 ghost use Rattle.sd_report.specs.Words.{subject_name};
 
 use crate::cells::{put_cell, put_left, put_left_number, put_right};
 use crate::words::{holder, measure_word, row_object};
+use sd_state::State;
 use sd_statistics::{Row, Span, Subject, cpu_rows, lock_rows, task_rows, thread_rows, ticks_of};
 use sd_stretches::{ByThread, lock_name, put_counted, thread_name};
 use sd_types::Work;
@@ -162,17 +163,39 @@ fn put_threads(
     put_section(work, b"\nthreads\n", &rows, out)
 }
 
+// On several processors, what their counts mean for tasks.
+#[tactic(auto, unfolding(crate::specs::Tables::skew_line))]
+fn put_skew(work: &Work, rows: &[Row], out: &mut Vec<u8>) -> Result<(), AllocError>
+    ensures { OnOk result (out.new.items ≡ out.old.items ++ skew_line work.now rows.now) }
+{
+    if work.cpus <= 1 || rows.is_empty() {
+        return Ok(());
+    }
+    out.extend_from_slice(
+        b"a task that is not bound: each time a job comes to another processor, its response may become a tick more or less\n",
+    )
+}
+
+#[tactic(auto, unfolding(crate::specs::Tables::tasks_part))]
+fn put_task_rows(work: &Work, rows: &[Row], out: &mut Vec<u8>) -> Result<(), AllocError>
+    ensures { OnOk result (out.new.items ≡ out.old.items ++ tasks_part work.now rows.now) }
+{
+    put_section(work, b"\ntasks\n", rows, out)?;
+    put_skew(work, rows, out)
+}
+
 #[tactic(auto, unfolding(crate::specs::Tables::task_section))]
 fn put_tasks(
     alloc: Global,
     work: &Work,
     history: &ByThread,
+    end: &State,
     out: &mut Vec<u8>,
 ) -> Result<(), AllocError>
-    ensures { OnOk result (out.new.items ≡ out.old.items ++ task_section work.now history.now) }
+    ensures { OnOk result (out.new.items ≡ out.old.items ++ task_section work.now history.now end.now) }
 {
-    let rows = task_rows(alloc, work, &history.history)?;
-    put_section(work, b"\ntasks\n", &rows, out)
+    let rows = task_rows(alloc, work, &history.history, end)?;
+    put_task_rows(work, &rows, out)
 }
 
 #[tactic(auto, unfolding(crate::specs::Tables::lock_section))]
@@ -201,16 +224,22 @@ fn put_cpus(
     put_section(work, b"\nprocessors\n", &rows, out)
 }
 
-/// The report of a run of the workload, of which this is the history, as a table: a line for each row of the statistics.
+/// The report of a run of the workload, of which this is the history, and which ends in this state, as a table: a line for each row of
+/// the statistics.
 #[tactic(auto, unfolding(crate::specs::Tables::report_text))]
-pub fn report(alloc: Global, work: &Work, history: &ByThread) -> Result<Vec<u8>, AllocError>
-    ensures { IfOk result (λ text. text.items ≡ report_text work.now history.now) }
+pub fn report(
+    alloc: Global,
+    work: &Work,
+    history: &ByThread,
+    end: &State,
+) -> Result<Vec<u8>, AllocError>
+    ensures { IfOk result (λ text. text.items ≡ report_text work.now history.now end.now) }
 {
     let mut text = Vec::new(alloc);
     put_ticks_line(work, history, &mut text)?;
     put_head(&mut text)?;
     put_threads(alloc, work, history, &mut text)?;
-    put_tasks(alloc, work, history, &mut text)?;
+    put_tasks(alloc, work, history, end, &mut text)?;
     put_locks(alloc, work, history, &mut text)?;
     put_cpus(alloc, work, history, &mut text)?;
     Ok(text)

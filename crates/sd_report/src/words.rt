@@ -80,6 +80,7 @@ pub(crate) fn measure_word(measure: Measure) -> &'static [u8]
         Measure::Contended => b"contended",
         Measure::HandsOn => b"hands on",
         Measure::Responds => b"response",
+        Measure::Unfinished => b"unfinished",
     }
 }
 

@@ -10,4 +10,5 @@ pub mod Locks
 pub mod Nexts
 pub mod Rows
 pub mod Spans
+pub mod Tasks
 pub mod Threads

@@ -1,14 +1,15 @@
-//! The rows of tasks: threads that wait on a semaphore and come back to it, and how soon they do.
+//! The jobs of a task: a thread that takes a unit of a semaphore before each of its jobs.
 //!
-//! Source: response-time analysis (a job's response is from its release to its end); jobs by semaphores are this project's own.
+//! Source: response-time analysis (a job's response is from its release to its completion); jobs by semaphores are this project's own.
 
-ghost use Rattle.std.specs.Prelude.{◌≡◌, ◌++◌, ◌∷◌, [], ◌+◌, ◌<◌, ◌≤◌, ◌^◌, None, IfOk, OnOk, slice_get, unwrap_or};
-ghost use Rattle.sd_statistics.specs.Jobs.{at_start, chan_part, chan_rows, comes_back, counted_if, counted_up, is_sema, job_after, job_if, job_to, jobs_from, jobs_of, kind_of, release_at, sema_entries, sema_of, sema_rows, taken_after, task_row, task_rows, unit};
+ghost use Rattle.std.specs.Prelude.{◌≡◌, ◌++◌, ◌∷◌, [], ◌+◌, ◌<◌, ◌≤◌, ◌^◌, ◌==◌, None, IfOk, OnOk, drop, slice_get, unwrap_or};
+ghost use Rattle.sd_state.specs.Operations.{script_of};
+ghost use Rattle.sd_statistics.specs.Jobs.{at_start, comes_back, counted_if, counted_up, has_long, is_long, is_over, is_over_in, is_ready, is_take, is_taker, is_taking, is_told, job_after, job_if, job_left, job_of, job_to, jobs_from, jobs_of, jobs_taken, jobs_untaken, opened, point_of, release_at, takers, takes, taken_after, taken_in, ticked, told_entries, unit, untaken_at, untaken_from, untaken_job};
 
-use crate::rows::{Measure, Row, Subject, all_of, push_row};
-use crate::spans::{Span, state_after, summary_of};
-use sd_stretches::{Happening, History};
-use sd_types::{ChanId, ChanKind, Event, Work};
+use crate::spans::state_after;
+use sd_state::{Place, State, ThreadState};
+use sd_stretches::Happening;
+use sd_types::{Event, Op, ThreadDecl, Work};
 use std::alloc::{AllocError, Global};
 
 /// When a unit of a semaphore was released, and with it a job: at this tick, and `first` is the number of the state after it.
@@ -18,50 +19,101 @@ pub struct Release {
     pub tick: u32,
 }
 
-// The semaphore of which an entry is.
-fn sema_of(event: &Event) -> Option<ChanId>
-    ensures { result ≡ sema_of event.now }
+/// An entry, by its number, and the count of its processor after it.
+#[derive(Clone, Copy)]
+pub struct Point {
+    pub entry: u64,
+    pub tick: u32,
+}
+
+/// A job: its release, where its thread took it, and where it was complete. A job that waits to be taken has neither.
+#[derive(Clone, Copy)]
+pub struct Job {
+    pub release: Release,
+    pub taken: Option<Point>,
+    pub completion: Option<Point>,
+}
+
+/// A job that was taken and has not come back, with the last of its ticks and spins so far.
+#[derive(Clone, Copy)]
+pub struct OpenJob {
+    pub release: Release,
+    pub taken: Point,
+    pub ticked: Option<Point>,
+}
+
+fn is_take(k: u16, op: Op) -> bool
+    ensures { result ≡ is_take k op }
+{
+    match op {
+        Op::SemaP(j) => j.0 == k,
+        _ => false,
+    }
+}
+
+/// The script takes units of semaphore `k`.
+pub(crate) fn takes(k: u16, ops: &[Op]) -> bool
+    ensures { result ≡ takes k ops.now }
+{
+    ops.iter().any(|op| is_take(k, *op))
+}
+
+fn is_taker(k: u16, decl: &ThreadDecl) -> bool
+    ensures { result ≡ is_taker k decl.now }
+{
+    takes(k, decl.script.ops())
+}
+
+// How many threads take units of the semaphore.
+fn takers(work: &Work, k: u16) -> usize
+    ensures { result ≡ takers work.now k }
+{
+    work.threads
+        .items()
+        .iter()
+        .filter(|decl| is_taker(k, decl))
+        .count()
+}
+
+fn is_told(t: usize, k: u16, event: &Event) -> bool
+    ensures { result ≡ is_told t k event.now }
 {
     match *event {
-        Event::SemaP { k, .. } | Event::SemaWait { k, .. } => Some(k),
-        Event::SemaVWake { k, .. } | Event::SemaVCount { k, .. } => Some(k),
-        _ => None,
+        Event::SemaP { k: j, .. } | Event::SemaWait { k: j, .. } => j.0 == k,
+        Event::SemaVWake { k: j, .. } | Event::SemaVCount { k: j, .. } => j.0 == k,
+        Event::Tick { t: u } | Event::Spin { t: u, .. } | Event::Done { t: u } => {
+            u.0 as usize == t
+        }
+        _ => false,
     }
 }
 
-fn is_sema(k: u16, sema: Option<ChanId>) -> bool
-    ensures { result ≡ is_sema k sema }
+#[tactic(auto, unfolding(crate::specs::Jobs::told_entries))]
+fn push_told(t: usize, k: u16, x: &Happening, told: &mut Vec<Happening>) -> Result<(), AllocError>
+    ensures { OnOk result (told.new.items ≡ told.old.items ++ told_entries t k (x.now ∷ [])) }
 {
-    match sema {
-        Some(j) => j.0 == k,
-        None => false,
-    }
-}
-
-#[tactic(auto, unfolding(crate::specs::Jobs::sema_entries))]
-fn push_own(k: u16, x: &Happening, own: &mut Vec<Happening>) -> Result<(), AllocError>
-    ensures { OnOk result (own.new.items ≡ own.old.items ++ sema_entries k (x.now ∷ [])) }
-{
-    if is_sema(k, sema_of(&x.event)) {
-        own.push(*x)?;
+    if is_told(t, k, &x.event) {
+        told.push(*x)?;
     }
     Ok(())
 }
 
-// The entries of one semaphore.
-#[tactic(auto, unfolding(crate::specs::Jobs::sema_entries))]
-fn sema_entries(
+/// The entries that tell the jobs of thread `t` by semaphore `k`: those of the semaphore, and the ticks, the spins and the end of
+/// the thread.
+#[tactic(auto, unfolding(crate::specs::Jobs::told_entries))]
+pub(crate) fn told_entries(
     alloc: Global,
+    t: usize,
     k: u16,
     happenings: &[Happening],
 ) -> Result<Vec<Happening>, AllocError>
-    ensures { IfOk result (λ v. v.items ≡ sema_entries k happenings.now) }
+    ensures { IfOk result (λ v. v.items ≡ told_entries t k happenings.now) }
 {
-    let mut own = Vec::new(alloc);
+    let mut told = Vec::new(alloc);
     for x in happenings {
-        push_own(k, x, &mut own)?;
+        push_told(t, k, x, &mut told)?;
     }
-    Ok(own)
+    Ok(told)
 }
 
 fn release_at(x: &Happening) -> Release
@@ -69,6 +121,15 @@ fn release_at(x: &Happening) -> Release
 {
     Release {
         first: state_after(x.entry),
+        tick: x.tick,
+    }
+}
+
+fn point_of(x: &Happening) -> Point
+    ensures { result ≡ point_of x.now }
+{
+    Point {
+        entry: x.entry,
         tick: x.tick,
     }
 }
@@ -85,11 +146,11 @@ fn push_counted(x: &Happening, out: &mut Vec<Release>) -> Result<(), AllocError>
 
 // When the units were released that the semaphore counted up.
 #[tactic(auto, unfolding(crate::specs::Jobs::counted_up))]
-fn counted_up(alloc: Global, own: &[Happening]) -> Result<Vec<Release>, AllocError>
-    ensures { IfOk result (λ v. v.items ≡ counted_up own.now) }
+fn counted_up(alloc: Global, told: &[Happening]) -> Result<Vec<Release>, AllocError>
+    ensures { IfOk result (λ v. v.items ≡ counted_up told.now) }
 {
     let mut units = Vec::new(alloc);
-    for x in own {
+    for x in told {
         push_counted(x, &mut units)?;
     }
     Ok(units)
@@ -105,14 +166,24 @@ fn unit_at(units: &[Release], at: usize) -> Release
     }
 }
 
-// The unit that is taken behind so many others.
-fn unit(count: u16, units: &[Release], taken: usize) -> Release
-    ensures { result ≡ unit count units.now taken }
+// The unit behind so many others.
+fn unit(count: u16, units: &[Release], n: usize) -> Release
+    ensures { result ≡ unit count units.now n }
 {
-    if taken < count as usize {
+    if n < count as usize {
         Release { first: 0, tick: 0 }
     } else {
-        unit_at(units, taken - count as usize)
+        unit_at(units, n - count as usize)
+    }
+}
+
+#[tactic(auto, unfolding(crate::specs::Jobs::is_taking))]
+fn is_taking(event: &Event) -> bool
+    ensures { result ≡ is_taking event.now }
+{
+    match event {
+        Event::SemaP { .. } => true,
+        _ => false,
     }
 }
 
@@ -121,20 +192,52 @@ fn taken_after(taken: usize, event: &Event) -> usize
     ensures value { result ≡ taken_after taken event.now }
     ensures bound { result ≤ taken + 1 }
 {
-    match event {
-        Event::SemaP { .. } => taken + 1,
-        _ => taken,
+    if is_taking(event) { taken + 1 } else { taken }
+}
+
+// How many units that were there were taken.
+fn taken_in(told: &[Happening]) -> usize
+    ensures { result ≡ taken_in told.now }
+{
+    let mut taken = 0;
+    for x in told {
+        taken = taken_after(taken, &x.event);
+    }
+    taken
+}
+
+fn opened(release: Release, x: &Happening) -> OpenJob
+    ensures { result ≡ opened release x.now }
+{
+    OpenJob {
+        release,
+        taken: point_of(x),
+        ticked: None,
     }
 }
 
-// The job of the thread that is open after an entry.
-fn job_after(t: usize, next: Release, current: Option<Release>, x: &Happening) -> Option<Release>
+fn ticked(x: &Happening, current: Option<OpenJob>) -> Option<OpenJob>
+    ensures { result ≡ ticked x.now current }
+{
+    match current {
+        Some(o) => Some(OpenJob {
+            release: o.release,
+            taken: o.taken,
+            ticked: Some(point_of(x)),
+        }),
+        None => None,
+    }
+}
+
+// The job of the thread that is there after an entry.
+fn job_after(t: usize, next: Release, current: Option<OpenJob>, x: &Happening) -> Option<OpenJob>
     ensures { result ≡ job_after t next current x.now x.now.event }
 {
     match x.event {
-        Event::SemaP { t: u, .. } if u.0 as usize == t => Some(next),
-        Event::SemaWait { t: u, .. } if u.0 as usize == t => None,
-        Event::SemaVWake { u, .. } if u.0 as usize == t => Some(release_at(x)),
+        Event::SemaP { t: u, .. } if u.0 as usize == t => Some(opened(next, x)),
+        Event::SemaVWake { u, .. } if u.0 as usize == t => Some(opened(release_at(x), x)),
+        Event::SemaWait { t: u, .. } | Event::Done { t: u } if u.0 as usize == t => None,
+        Event::Tick { t: u } | Event::Spin { t: u, .. } if u.0 as usize == t => ticked(x, current),
         _ => current,
     }
 }
@@ -143,150 +246,218 @@ fn comes_back(t: usize, event: &Event) -> bool
     ensures { result ≡ comes_back t event.now }
 {
     match event {
-        Event::SemaP { t: u, .. } | Event::SemaWait { t: u, .. } => u.0 as usize == t,
+        Event::SemaP { t: u, .. } | Event::SemaWait { t: u, .. } | Event::Done { t: u } => {
+            u.0 as usize == t
+        }
         _ => false,
     }
 }
 
-fn push_job_to(
-    t: usize,
-    x: &Happening,
-    current: Option<Release>,
-    out: &mut Vec<Span>,
-) -> Result<(), AllocError>
-    ensures { OnOk result (out.new.items ≡ out.old.items ++ job_to t x.now current) }
+fn job_of(o: OpenJob, completion: Option<Point>) -> Job
+    ensures { result ≡ job_of o completion }
 {
-    if let Some(r) = current {
-        out.push(Span {
-            thread: t,
-            first: r.first,
-            last: x.entry,
-            from: r.tick,
-            to: x.tick,
-        })?;
+    Job {
+        release: o.release,
+        taken: Some(o.taken),
+        completion,
+    }
+}
+
+// The job that comes back by the entry.
+fn push_job_to(
+    x: &Happening,
+    current: Option<OpenJob>,
+    out: &mut Vec<Job>,
+) -> Result<(), AllocError>
+    ensures { OnOk result (out.new.items ≡ out.old.items ++ job_to x.now current) }
+{
+    if let Some(o) = current {
+        let completion = o.ticked.unwrap_or(point_of(x));
+        out.push(job_of(o, Some(completion)))?;
     }
     Ok(())
 }
 
-// The open job, where the thread comes back by the entry.
+// The same, where the thread comes back.
 fn push_job(
     t: usize,
-    current: Option<Release>,
+    current: Option<OpenJob>,
     x: &Happening,
-    out: &mut Vec<Span>,
+    out: &mut Vec<Job>,
 ) -> Result<(), AllocError>
     ensures { OnOk result (out.new.items ≡ out.old.items ++ job_if t current x.now) }
 {
     if comes_back(t, &x.event) {
-        push_job_to(t, x, current, out)?;
+        push_job_to(x, current, out)?;
     }
     Ok(())
 }
 
-// The jobs that the thread ends, from the entries of one semaphore.
-#[tactic(auto, unfolding(crate::specs::Jobs::jobs_of))]
-fn jobs_of(
+// The job that has not come back by the end of the run.
+fn push_left(is_over: bool, current: Option<OpenJob>, out: &mut Vec<Job>) -> Result<(), AllocError>
+    ensures { OnOk result (out.new.items ≡ out.old.items ++ job_left is_over current) }
+{
+    if let Some(o) = current {
+        let completion = if is_over { o.ticked } else { None };
+        out.push(job_of(o, completion))?;
+    }
+    Ok(())
+}
+
+// The jobs that the thread takes.
+#[tactic(auto, unfolding(crate::specs::Jobs::jobs_from))]
+fn jobs_taken(
     alloc: Global,
+    is_over: bool,
     t: usize,
     count: u16,
     units: &[Release],
-    own: &[Happening],
-) -> Result<Vec<Span>, AllocError>
-    ensures { IfOk result (λ v. v.items ≡ jobs_from t count units.now 0 None own.now) }
+    told: &[Happening],
+) -> Result<Vec<Job>, AllocError>
+    ensures { IfOk result (λ v. v.items ≡ jobs_from is_over t count units.now 0 None told.now) }
 {
     let mut found = Vec::new(alloc);
     let mut taken = 0;
     let mut current = None;
-    let mut left = own;
+    let mut left = told;
     while let Some((x, rest)) = left.split_first() {
         push_job(t, current, x, &mut found)?;
         current = job_after(t, unit(count, units, taken), current, x);
         taken = taken_after(taken, &x.event);
         left = rest;
     }
+    push_left(is_over, current, &mut found)?;
     Ok(found)
 }
 
-#[tactic(auto, unfolding(crate::specs::Jobs::jobs_of))]
-fn push_task(
-    alloc: Global,
-    k: u16,
+fn push_untaken(
     count: u16,
     units: &[Release],
-    own: &[Happening],
-    t: usize,
-    out: &mut Vec<Row>,
+    n: usize,
+    out: &mut Vec<Job>,
 ) -> Result<(), AllocError>
-    ensures { OnOk result (units.now ≡ counted_up own.now → out.new.items ≡ out.old.items ++ task_row k count own.now t) }
+    ensures { OnOk result (out.new.items ≡ out.old.items ++ untaken_job (unit count units.now n) ∷ []) }
 {
-    let jobs = jobs_of(alloc, t, count, units, own)?;
-    push_row(
-        Row {
-            subject: Subject::Task(t, ChanId(k)),
-            measure: Measure::Responds,
-            figures: all_of(summary_of(&jobs)),
-        },
-        out,
-    )
+    out.push(Job {
+        release: unit(count, units, n),
+        taken: None,
+        completion: None,
+    })?;
+    Ok(())
 }
 
-// The rows of the tasks of one semaphore.
-#[tactic(auto, unfolding(crate::specs::Jobs::sema_rows))]
-fn push_sema(
-    alloc: Global,
-    k: u16,
+// The jobs of the units behind those that were taken.
+#[tactic(auto, unfolding(crate::specs::Jobs::untaken_from))]
+fn push_all_untaken(
     count: u16,
-    threads: usize,
-    own: &[Happening],
-    out: &mut Vec<Row>,
+    units: &[Release],
+    taken: usize,
+    out: &mut Vec<Job>,
 ) -> Result<(), AllocError>
-    ensures { OnOk result (out.new.items ≡ out.old.items ++ sema_rows k count threads own.now) }
+    ensures { OnOk result (out.new.items ≡ out.old.items ++ untaken_from count units.now taken) }
 {
-    let units = counted_up(alloc, own)?;
-    for t in 0..threads {
-        push_task(alloc, k, count, &units, own, t, out)?;
+    let many = (count as usize + units.len()).saturating_sub(taken);
+    for i in 0..many {
+        push_untaken(count, units, taken + i, out)?;
     }
     Ok(())
 }
 
-fn kind_of(work: &Work, k: u16) -> Option<ChanKind>
-    ensures { result ≡ kind_of work.now k }
+#[tactic(auto, unfolding(crate::specs::Jobs::jobs_untaken, crate::specs::Jobs::counted_up))]
+fn push_own_untaken(
+    is_only: bool,
+    count: u16,
+    units: &[Release],
+    told: &[Happening],
+    out: &mut Vec<Job>,
+) -> Result<(), AllocError>
+    ensures { OnOk result (units.now ≡ counted_up told.now → out.new.items ≡ out.old.items ++ jobs_untaken is_only count told.now) }
 {
-    match work.chans.items().get(k as usize) {
-        Some(chan) => Some(chan.1),
-        None => None,
+    if is_only {
+        push_all_untaken(count, units, taken_in(told), out)?;
+    }
+    Ok(())
+}
+
+fn is_long(op: Op) -> bool
+    ensures { result ≡ is_long op }
+{
+    match op {
+        Op::Run(_) | Op::Nap(_) | Op::Sleep(_) | Op::CvWait(_, _) => true,
+        Op::SemaP(_) | Op::Enter(_) | Op::Read(_) | Op::Write(_) => true,
+        _ => false,
     }
 }
 
-fn push_chan(
+// Of these operations of a job by the semaphore one takes time.
+fn has_long(k: u16, ops: &[Op]) -> bool
+    ensures { result ≡ has_long k ops.now }
+{
+    ops.iter()
+        .take_while(|op| !is_take(k, **op))
+        .any(|op| is_long(*op))
+}
+
+// The operations from this number on.
+fn ops_from(ops: &[Op], at: u16) -> &[Op]
+    ensures { result.now ≡ drop at ops.now }
+{
+    &ops[ops.len().min(at as usize)..]
+}
+
+fn is_ready(place: Place) -> bool
+    ensures { result ≡ is_ready place }
+{
+    matches!(
+        place,
+        Place::Running(_) | Place::Queued(_, _) | Place::RealTime(_, _)
+    )
+}
+
+fn is_over_in(k: u16, ops: &[Op], x: &ThreadState) -> bool
+    ensures { result ≡ is_over_in k ops.now x.now }
+{
+    is_ready(x.place) && !has_long(k, ops_from(ops, x.body.op))
+}
+
+/// The operations of a thread.
+pub(crate) fn script_of(work: &Work, t: usize) -> &[Op]
+    ensures { result.now ≡ script_of work.now t }
+{
+    match work.threads.items().get(t) {
+        Some(decl) => decl.script.ops(),
+        None => &[],
+    }
+}
+
+// In the last state the thread has nothing left in a job by the semaphore that takes time.
+fn is_over(work: &Work, end: &State, k: u16, t: usize) -> bool
+    ensures { result ≡ is_over work.now end.now k t }
+{
+    match end.threads.items().get(t) {
+        Some(x) => is_over_in(k, script_of(work, t), x),
+        None => false,
+    }
+}
+
+/// The jobs of thread `t` by semaphore `k`, which begins with `count` units, in a run that ends in this state; `told` are the entries
+/// that tell them. A job is complete at its last tick or spin before its thread asks for the next unit or ends; one that has none,
+/// where it does so. At the end of the run one is complete too that has ticked, is not waiting, and has nothing left that takes
+/// time. The jobs of units that nobody has taken are the thread's where no other takes units of the semaphore.
+#[tactic(auto, unfolding(crate::specs::Jobs::jobs_of, crate::specs::Jobs::jobs_taken))]
+pub(crate) fn jobs_of(
     alloc: Global,
     work: &Work,
-    history: &History,
+    end: &State,
     k: u16,
-    out: &mut Vec<Row>,
-) -> Result<(), AllocError>
-    ensures { OnOk result (out.new.items ≡ out.old.items ++ chan_part work.now history.now k) }
+    count: u16,
+    t: usize,
+    told: &[Happening],
+) -> Result<Vec<Job>, AllocError>
+    ensures { IfOk result (λ v. v.items ≡ jobs_of work.now end.now k count t told.now) }
 {
-    match kind_of(work, k) {
-        Some(ChanKind::Sema { count }) => {
-            let own = sema_entries(alloc, k, &history.happenings)?;
-            push_sema(alloc, k, count, work.threads.items().len(), &own, out)
-        }
-        _ => Ok(()),
-    }
-}
-
-/// The rows of the tasks of a run of the workload, of which this is the history. A task is a thread that waits on a semaphore and
-/// comes back to it. Its job begins with the release of the unit that the thread takes or is handed, at tick 0 for those with which the
-/// semaphore begins, and ends where the thread asks for the next; units are taken in the order of their release. The row of a task
-/// has the number of its jobs, the sum of their response times, and the greatest.
-#[tactic(auto, unfolding(crate::specs::Jobs::task_rows))]
-pub fn task_rows(alloc: Global, work: &Work, history: &History) -> Result<Vec<Row>, AllocError>
-    ensures { IfOk result (λ v. v.items ≡ task_rows work.now history.now) }
-{
-    let mut rows = Vec::new(alloc);
-    for k in 0..work.chans.items().len() {
-        push_chan(alloc, work, history, k as u16, &mut rows)?;
-    }
-    Ok(rows)
+    let units = counted_up(alloc, told)?;
+    let mut jobs = jobs_taken(alloc, is_over(work, end, k, t), t, count, &units, told)?;
+    push_own_untaken(takers(work, k) == 1, count, &units, told, &mut jobs)?;
+    Ok(jobs)
 }

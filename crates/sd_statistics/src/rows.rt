@@ -21,7 +21,7 @@ pub enum Subject {
 /// What a row measures: what a thread does; the ticks that lie in two of its states (see `thread_rows`); the time from a wakeup
 /// to its running; over which ticks it has an inherited priority, and the greatest of these; what a processor does; how often a
 /// lock is taken and how long it is held, how often a thread had to spin or wait first, and how often its owner is given the priority
-/// of those who wait; the response times of a task.
+/// of those who wait; the response times of a task, and how many of its jobs are not complete.
 #[derive(Clone, Copy)]
 pub enum Measure {
     Does(Activity),
@@ -33,6 +33,7 @@ pub enum Measure {
     Contended,
     HandsOn,
     Responds,
+    Unfinished,
 }
 
 /// The numbers of a row: how many there are, the sum of their ticks, the longest, and a priority (0 to 159). A row has those that

@@ -76,8 +76,8 @@ drawing-ends : (d : Drawing) (w : Work) (es : List Entry) (text : List ℕ) → 
 drawing-ends (Timeline from to) w es text (h, is, e) = subst EndsLine (sym e) (timeline-ends w _ h _)
 drawing-ends Trace w es text (h, is, e) = subst EndsLine (sym e) (trace-ends w h)
 drawing-ends (Story sel) w es text e = subst EndsLine (sym e) (story-ends w sel es)
-drawing-ends Report w es text (h, is, e) = subst EndsLine (sym e) (report-ends w h)
-drawing-ends Sheet w es text (h, is, e) = subst EndsLine (sym e) (sheet-ends w h)
+drawing-ends Report w es text (h, is, e) = subst EndsLine (sym e) (report-ends w h _)
+drawing-ends Sheet w es text (h, is, e) = subst EndsLine (sym e) (sheet-ends w h _)
 
 pub drawn-ends : (d : Drawing) (w : Work) (journal text : List ℕ) → IsDrawn d w journal text → EndsLine text
 drawn-ends d w journal text is = drawing-ends d w is.entries text is.drawing_of

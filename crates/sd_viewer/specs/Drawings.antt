@@ -91,8 +91,8 @@ abbrev pub IsDrawingOf : Drawing → Work → List Entry → List ℕ → Type 0
 IsDrawingOf (Timeline from to) w es text = (h : History) × IsHistory w es h × (text ≡ timeline_text w (frame_of w from to) h (final w (opening w) es))
 IsDrawingOf Trace w es text = (h : History) × IsHistory w es h × (text ≡ trace_text w h)
 IsDrawingOf (Story selection) w es text = text ≡ story w selection es
-IsDrawingOf Report w es text = (h : History) × IsHistory w es h × (text ≡ report_text w h)
-IsDrawingOf Sheet w es text = (h : History) × IsHistory w es h × (text ≡ sheet_text w h)
+IsDrawingOf Report w es text = (h : History) × IsHistory w es h × (text ≡ report_text w h (final w (opening w) es))
+IsDrawingOf Sheet w es text = (h : History) × IsHistory w es h × (text ≡ sheet_text w h (final w (opening w) es))
 
 -- the text is the drawing of the complete legal run whose journal was read
 pub record IsDrawn (drawing : Drawing) (w : Work) (journal drawn : List ℕ) : Type 0 where

@@ -24,5 +24,5 @@ drawing_of Sheet = drawing.Sheet
 abbrev pub view_text : View → Work → History → State → List ℕ
 view_text (Timeline from to) w h end = timeline_text w (frame_of w from to) h end
 view_text Trace w h end = trace_text w h
-view_text Report w h end = report_text w h
-view_text Sheet w h end = sheet_text w h
+view_text Report w h end = report_text w h end
+view_text Sheet w h end = sheet_text w h end

@@ -55,8 +55,8 @@ fn view_text(alloc: Global, work: &Work, view: View, run: Gathered) -> Result<Ve
             timeline(alloc, work, frame, &history, &end, &cycles)
         }
         View::Trace => trace(alloc, work, &history),
-        View::Report => report(alloc, work, &history),
-        View::Sheet => sheet(alloc, work, &history),
+        View::Report => report(alloc, work, &history, &end),
+        View::Sheet => sheet(alloc, work, &history, &end),
     }
 }
 

@@ -1,7 +1,0 @@
-use Rattle.std.proofs.Common.{◌≡◌}
-use Rattle.std.specs.List.{flat_map, range_with_len}
-use Rattle.sd_statistics.specs.Jobs.{chan_part}
-use Rattle.sd_statistics.proofs.jobs.task_rows.Given as goal
-
-abbrev pub invariant-loop-k : goal.invariant-loop-k
-invariant-loop-k l = l.rows.items ≡ flat_map (chan_part l.work l.history) (range_with_len 0 l.k)
