@@ -11,13 +11,15 @@ STATUSES = {
     "tables": {0, 2},
     "audit": {0, 2, 7},
     "dispview": {0, 2, 7},
+    "disptask": {0, 2},
+    "dispfind": {0, 2, 9, 10, 11},
 }
 
 _TABLE_FAULT = rb"table: (not a number|range in column [1-5]|rows: \d+|resolution)"
 _SCRIPT_FAULT = rb"script: (unbalanced|too many held|already held|too long|held at exit)"
 _CAUSE = rb"(syntax|unknown|twice|range|sets|limits|" + _TABLE_FAULT + rb"|" + _SCRIPT_FAULT + rb")"
 REFUSED_LINE = re.compile(rb"refused: line ([1-9]\d*): " + _CAUSE + rb"\n")
-_REFUSED = re.compile(rb"refused: (no journal|input larger than (1048576|134217728) bytes)\n")
+_REFUSED = re.compile(rb"refused: (no journal|no thread has this name|input larger than (1048576|134217728) bytes)\n")
 NOT_AN_ENTRY = re.compile(rb"journal: line ([1-9]\d*): not an entry\n")
 ACCOUNTS_LINE = re.compile(rb"journal: line ([1-9]\d*): accounts\n")
 ILLEGAL = re.compile(rb"journal: entry (0|[1-9]\d*): illegal\n")
@@ -30,14 +32,14 @@ LINES = {3: b"read fault\n", 4: b"write fault\n", 5: b"out of memory\n", 6: b"bl
 
 
 def kind_of(form: str) -> str:
-    """`run` of `run --seed 7`, and `dispview` of all its forms."""
+    """`run` of `run --seed 7`, and `dispview` of all its forms, as `disptask` and `dispfind`."""
     return form.split()[0]
 
 
 def line_fault(status: int, err: bytes) -> str | None:
     """What is wrong with the error output of this status, or nothing."""
-    if status == 0:
-        return None
+    if status in (0, 9, 10, 11):
+        return "an error output beside what was found" if status != 0 and err else None
     if status == 1:
         fits = err.startswith(b"usage: ") and err.count(b"\n") == 1 and err.endswith(b"\n")
     elif status == 2:
@@ -50,7 +52,7 @@ def line_fault(status: int, err: bytes) -> str | None:
 
 
 def output_fault(form: str, status: int, out: bytes, err: bytes) -> str | None:
-    """What is wrong with what a run wrote that ended with 0, 2, 6 or 7, or nothing."""
+    """What is wrong with what a run wrote that ended with 0, 2, 6, 7 or more, or nothing."""
     if status in (2, 7):
         return "output beside a refusal" if out else None
     if not out.endswith(b"\n"):

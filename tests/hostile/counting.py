@@ -16,6 +16,8 @@ class Setting:
 
     dispsim: str
     dispview: str
+    disptask: str
+    dispfind: str
     repository: Path
     scratch: Path
     kept: Path
@@ -26,12 +28,16 @@ class Setting:
     def command(self, form: str) -> list[str]:
         """The command of a form such as `run --seed 7` or `dispview list`."""
         words = form.split()
-        if words[0] == "dispview":
-            return [self.dispview, *words[1:]]
+        others = {"dispview": self.dispview, "disptask": self.disptask, "dispfind": self.dispfind}
+        if words[0] in others:
+            return [others[words[0]], *words[1:]]
         return [self.dispsim, *words]
 
     def examples(self) -> list[Path]:
         return sorted((self.repository / "examples").glob("*.workload"))
+
+    def sets(self) -> list[Path]:
+        return sorted((self.repository / "examples").glob("*.set"))
 
 
 @dataclass

@@ -14,21 +14,39 @@ FIRST = ["first", "inversion_chain", "own_table"]
 
 WORKLOAD_FORMS = ["run", "run --seed 7", "sum", "tables"]
 JOURNAL_FORMS = ["audit", "dispview timeline", "dispview trace", "dispview list", "dispview report", "dispview report --csv"]
-INPUTLESS_FORMS = ["gen 7", "dispview --help", "run fast"]
+SET_FORMS = ["disptask", "disptask --map", "dispfind states --most 20"]
+SET_JOURNAL_FORMS = ["dispview timeline", "dispview report"]
+INPUTLESS_FORMS = ["gen 7", "dispview --help", "disptask --help", "run fast"]
 
 
 def growths(setting: Setting, size: int) -> Count:
-    """Refuses growths of the runs of this many examples."""
+    """Refuses growths of the runs of this many examples, and of this many task sets."""
     try:
         host(setting)
     except NoCompiler:
         return Count(notes=["not tried: there is no C compiler"])
-    return share_out(_of_example, setting, min(size, len(setting.examples())), 1)
+    count = share_out(_of_set, setting, min(size, len(setting.sets())), 1)
+    count.add(share_out(_of_example, setting, min(size, len(setting.examples())), 1))
+    return count
 
 
 def _in_order(setting: Setting):
     examples = setting.examples()
     return sorted(examples, key=lambda path: (FIRST.index(path.stem) if path.stem in FIRST else len(FIRST), path.stem))
+
+
+def _of_set(setting: Setting, piece: int, _size: int, deadline: float) -> Count:
+    judge = Judge(setting, "set_growths", piece, deadline)
+    text = sorted(setting.sets(), key=lambda path: path.stat().st_size)[piece].read_bytes()
+    workload = judge.runner.run(setting.command("disptask"), text).out
+    certificate = text + b"journal\n" + judge.runner.run(setting.command("run"), workload).out
+    made = Host(setting.scratch)
+    made.calls = setting.scratch / f"set_calls{piece}"
+    for form in SET_FORMS:
+        _refuse_each(judge, made, form, text)
+    for form in SET_JOURNAL_FORMS:
+        _refuse_each(judge, made, form, certificate)
+    return judge.count
 
 
 def _of_example(setting: Setting, piece: int, _size: int, deadline: float) -> Count:

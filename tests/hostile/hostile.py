@@ -16,11 +16,15 @@ from growths import growths
 from mutated import mutated
 from sanitised import sanitised
 from seeds import seeds
+from set_limits import set_limits
+from sets import sets
 from sizes import sizes
 from streams import streams
 from threads import threads
 
 REPOSITORY = Path(__file__).resolve().parents[2]
+
+PROGRAMS = ("dispsim", "dispview", "disptask", "dispfind")
 
 # Each part, and its size where none is given.
 PARTS = {
@@ -28,6 +32,8 @@ PARTS = {
     "mutated": (mutated, 20_000),
     "sanitised": (sanitised, 500),
     "seeds": (seeds, 5_000),
+    "set_limits": (set_limits, 20),
+    "sets": (sets, 5_000),
     "sizes": (sizes, 8),
     "streams": (streams, 3),
     "threads": (threads, 200),
@@ -36,8 +42,8 @@ PARTS = {
 
 def parsed(words: list[str]) -> argparse.Namespace:
     parser = argparse.ArgumentParser(description=__doc__.splitlines()[0], epilog=f"Parts: {' '.join(PARTS)}")
-    parser.add_argument("--dispsim", default=REPOSITORY / "crates/dispsim/out/dispsim", help="the built program")
-    parser.add_argument("--dispview", default=REPOSITORY / "crates/dispview/out/dispview", help="the built program")
+    for name in PROGRAMS:
+        parser.add_argument(f"--{name}", default=REPOSITORY / f"crates/{name}/out/{name}", help="the built program")
     parser.add_argument("--seed", type=int, default=1, help="what is drawn is drawn from this number")
     parser.add_argument("--jobs", type=int, default=1, help="how many processes work at once")
     parser.add_argument("--seconds", type=float, default=600, help="how long a part may last")
@@ -67,7 +73,8 @@ def show(name: str, size: int, count: Count, seconds: float):
 def main() -> int:
     options = parsed(sys.argv[1:])
     parts = chosen(options.parts)
-    for program in (options.dispsim, options.dispview):
+    programs = {name: getattr(options, name) for name in PROGRAMS}
+    for program in programs.values():
         if not Path(program).is_file():
             sys.exit(f"hostile.py: no program {program}: build it with 'rt run', or name another")
     total = Count()
@@ -75,8 +82,7 @@ def main() -> int:
     scratch = Path(tempfile.mkdtemp(prefix="hostile-", dir=shared if shared.is_dir() else None))
     try:
         setting = Setting(
-            dispsim=str(Path(options.dispsim).resolve()),
-            dispview=str(Path(options.dispview).resolve()),
+            **{name: str(Path(program).resolve()) for name, program in programs.items()},
             repository=REPOSITORY,
             scratch=scratch,
             kept=options.kept.resolve(),

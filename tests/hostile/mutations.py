@@ -13,6 +13,8 @@ _ENDS += [2**15, 2**31 - 1, 2**31, 2**32 - 1, 2**32, 9999999999, 10**10, 2**63 -
 NUMBER = re.compile(rb"-?\d+")
 
 # Lines that open, close and name blocks.
+_SET_LINES = [b"repeat N", b"job t0", b"job t1", b"task t0 rt 5 inf period N", b"task x ts 29 0 0 period N offset N", b"thread y rt 5 inf start N"]
+_SET_LINES += [b"thread z rt 58 inf on N", b"semav t0", b"semap t0", b"sema clock-N 0", b"limit N", b"cpus N", b"run N", b"script t0"]
 _BLOCK_LINES = [b"end", b"script a", b"script t0", b"table ts", b"table fx", b"table rt", b"accounts", b"journal", b"RES=1000"]
 
 
@@ -82,6 +84,36 @@ def insert_block_line(draw: Random, text: bytes) -> bytes:
     return b"".join(lines)
 
 
+def insert_set_line(draw: Random, text: bytes) -> bytes:
+    """A line that only a task set has, and its end perhaps."""
+    lines = text.splitlines(keepends=True)
+    number = str(draw.choice([*_ENDS[:24], *range(3, 30)])).encode()
+    piece = [draw.choice(_SET_LINES).replace(b"N", number) + b"\n"] * draw.choice([1, 1, 1, 2, 9])
+    at = draw.randrange(len(lines) + 1)
+    lines[at:at] = piece
+    if draw.random() < 0.5:
+        below = draw.randint(at, len(lines))
+        lines[below:below] = [b"end\n"] * len(piece)
+    return b"".join(lines)
+
+
+def change_option(draw: Random, text: bytes) -> bytes:
+    """An option behind a line of a thread or task, or one less."""
+    lines = text.splitlines()
+    places = [place for place, line in enumerate(lines) if line.startswith((b"task ", b"thread "))]
+    if places:
+        place = draw.choice(places)
+        words = lines[place].split()
+        if draw.random() < 0.3:
+            del words[-2:]
+        else:
+            option = draw.choice([b"period", b"offset", b"deadline", b"jobs", b"on", b"start", b"in", b"uid"])
+            at = draw.randint(3, max(3, len(words)))
+            words[at:at] = [option, str(draw.choice([0, 1, 2, 3, 7, 59, 64, 256, 100000])).encode()]
+        lines[place] = b" ".join(words)
+    return b"\n".join(lines) + b"\n"
+
+
 def insert_bytes(draw: Random, text: bytes) -> bytes:
     at = draw.randrange(len(text) + 1)
     return text[:at] + draw.randbytes(draw.randint(1, 40)) + text[at:]
@@ -110,6 +142,9 @@ WAYS = [
     insert_bytes,
     lengthen_line,
 ]
+
+
+SET_WAYS = [*WAYS, insert_set_line, insert_set_line, insert_set_line, change_option, change_option, change_number]
 
 
 def drop_entry(draw: Random, text: bytes) -> bytes:

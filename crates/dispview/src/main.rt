@@ -1,4 +1,4 @@
-//! The picture or the trace of a run: reads a workload, the line `journal` and a journal, and draws what is a complete legal
+//! The picture or the trace of a run: reads a workload or a task set, the line `journal` and a journal, and draws what is a complete legal
 //! run of the workload.
 #![tactic(auto)]
 

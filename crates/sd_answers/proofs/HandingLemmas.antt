@@ -11,6 +11,7 @@ use Rattle.sd_answers.specs.Answers.{answer_of, status_of, stop_answer, unwritte
 use Rattle.sd_answers.specs.Certificates.{IsJudged}
 use Rattle.sd_answers.specs.Handing.{IsHandedOn, LeavesHeldBy, is_printed}
 use Rattle.sd_answers.specs.Inputs.{IsNoCertificate, IsRefused}
+use Rattle.sd_answers.specs.Languages.{Language}
 use Rattle.sd_answers.specs.StreamChanges.{HandsOn, LeavesHeld, StreamChange}
 use Rattle.sd_types.specs.declared.events.Stop.{Stop}
 use Rattle.sd_types.specs.declared.events.Stop.TheVariants as stop
@@ -40,17 +41,17 @@ handed_of (NotAJournal fault) before after left = none_printed 7 before after (�
 handed_of TooLong before after left = none_printed 8 before after (λ is. cc) left
 
 -- nothing was written where the input was refused, or holds no journal of a run
-pub leaves_refused : (input : StreamChange) (a : Answer) (held : List ℕ) → IsRefused input a → LeavesHeldBy a held held
-leaves_refused input Done held why = absurd why
-leaves_refused input Blocked held why = absurd why
-leaves_refused input WriteFault held why = tt
-leaves_refused input a held why = inl refl
+pub leaves_refused : (L : Language) (input : StreamChange) (a : Answer) (held : List ℕ) → IsRefused L input a → LeavesHeldBy a held held
+leaves_refused L input Done held why = absurd why
+leaves_refused L input Blocked held why = absurd why
+leaves_refused L input WriteFault held why = tt
+leaves_refused L input a held why = inl refl
 
-pub leaves_unjudged : {X : Type 0} (Made : X → Type 0) (input : StreamChange) (a : Answer) (held : List ℕ) → IsJudged Made input (Err a) → LeavesHeldBy a held held
-leaves_unjudged Made input Done held why = absurd why
-leaves_unjudged Made input Blocked held why = absurd why
-leaves_unjudged Made input WriteFault held why = tt
-leaves_unjudged Made input a held why = inl refl
+pub leaves_unjudged : {X : Type 0} (L : Language) (Made : X → Type 0) (input : StreamChange) (a : Answer) (held : List ℕ) → IsJudged L Made input (Err a) → LeavesHeldBy a held held
+leaves_unjudged L Made input Done held why = absurd why
+leaves_unjudged L Made input Blocked held why = absurd why
+leaves_unjudged L Made input WriteFault held why = tt
+leaves_unjudged L Made input a held why = inl refl
 
 -- a run that was stopped wrote nothing
 pub leaves_stopped : (reason : Stop) (held : List ℕ) → LeavesHeldBy (stop_answer reason) held held

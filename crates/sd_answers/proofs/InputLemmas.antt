@@ -15,13 +15,16 @@ use Rattle.sd_text.specs.declared.read.ReadAllFault.TheVariants as read
 use Rattle.sd_workload.specs.Accepted.{Accepted, FirstCause}
 use Rattle.sd_workload.specs.LineStarts.{IsFault}
 use Rattle.sd_workload.specs.Texts.{verdict_of}
+use Rattle.sd_workload.proofs.OneLemmas.{one-work}
 use Rattle.sd_workload.specs.declared.fault.WorkFault.{WorkFault}
 use Rattle.sd_workload.specs.declared.fault.WorkFault.TheVariants as work
 use Rattle.sd_answers.specs.declared.answers.Answer.{Answer}
+use Rattle.sd_answers.specs.declared.answers.Answer.TheVariants.{TooLarge, ReadFault, OutOfMemory}
 use Rattle.sd_answers.specs.Answers.{read_answer, work_answer}
 use Rattle.sd_answers.specs.StreamChanges.{StreamChange, HasFault, HasNoFault}
 use Rattle.sd_types.specs.Limits.{most_workload_bytes}
-use Rattle.sd_answers.specs.Inputs.{HasAtMost, HasRead, IsRefused, IsReading}
+use Rattle.sd_answers.specs.Inputs.{HasAtMost, HasRead, IsReadingText, IsRefused, IsReading}
+use Rattle.sd_answers.specs.Languages.{Language, IsSound, workloads}
 
 -- what was taken is no more than there was
 pub taken_within : (a b : Option (List ℕ)) (bs xs : List ℕ) → Consumes a b bs → a ≡ Some xs → length bs ≤ length xs
@@ -54,12 +57,15 @@ not_too_many most input bytes few is =
 pub not_both : (bytes : List ℕ) (w : Work) (line : ℕ) (cause : WorkCause) → Accepted bytes w → FirstCause bytes line cause → ⊥
 not_both bytes w line cause accepted first = cc (accepted.accepted)
 
+pub workloads_sound : IsSound workloads
+workloads_sound = record { one = one-work; not_both = not_both }
+
 -- ---- why an input is no workload
 
--- it was not read
+-- its text was not read
 pub unread_of : (input : StreamChange) (r : Result (Vec ℕ Global) ReadAllFault) → TakesUpTo most_workload_bytes input.before input.after r
     → (IsErrOf r read.ReadFault → HasFault input) → (¬ IsErrOf r read.ReadFault → HasNoFault input) → (IsErrOf r read.Memory → IsAtEnd input.after)
-    → IfErr r (λ fault. IsRefused input (read_answer fault))
+    → IfErr r (λ fault. IsReadingText input (Err (read_answer fault)))
 unread_of input (Ok v) taken fault none end = tt
 unread_of input (Err read.ReadFault) taken fault none end = fault refl
 unread_of input (Err read.TooLarge) taken fault none end = record {
@@ -80,13 +86,25 @@ unread_of input (Err read.Memory) taken fault none end =
 
 -- it was read, and spells no workload
 pub unspelled_of : (input : StreamChange) (bytes : List ℕ) (r : Result Work WorkFault) → HasRead most_workload_bytes input bytes
-    → IfErr r (IsFault (verdict_of bytes)) → IfErr r (λ fault. IsRefused input (work_answer fault))
+    → IfErr r (IsFault (verdict_of bytes)) → IfErr r (λ fault. IsRefused workloads input (work_answer fault))
 unspelled_of input bytes (Ok w) read first = tt
 unspelled_of input bytes (Err (work.At line cause)) read first = record { bytes = bytes; read = read; first = first }
 unspelled_of input bytes (Err (work.Memory line)) read first = at_most_of most_workload_bytes input bytes read
 
+-- so it spells nothing
+pub textless_of : (L : Language) (input : StreamChange) (a : Answer) → IsReadingText input (Err a) → IsRefused L input a
+textless_of L input TooLarge why = why
+textless_of L input ReadFault why = why
+textless_of L input OutOfMemory why = why
+textless_of L input a why = absurd why
+
 -- what the exit of a `?` returns
-pub reading_exit : (input : StreamChange) (r : Result Work Answer) (a : Answer) → IsErrAnd r (λ y. y ≡ a) → IsRefused input a → IsReading input r
-reading_exit input r a exit refused =
+pub text_exit : (input : StreamChange) (r : Result (Vec ℕ Global) Answer) (a : Answer) → IsErrAnd r (λ y. y ≡ a) → IsReadingText input (Err a) → IsReadingText input r
+text_exit input r a exit why =
     let x = err_from_is_err_and r exit in
-    subst (IsReading input) (sym (x.1 ∙ ap Err x.2)) refused
+    subst (IsReadingText input) (sym (x.1 ∙ ap Err x.2)) why
+
+pub reading_exit : (L : Language) (input : StreamChange) (r : Result Work Answer) (a : Answer) → IsErrAnd r (λ y. y ≡ a) → IsRefused L input a → IsReading L input r
+reading_exit L input r a exit refused =
+    let x = err_from_is_err_and r exit in
+    subst (IsReading L input) (sym (x.1 ∙ ap Err x.2)) refused

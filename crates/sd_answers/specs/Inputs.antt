@@ -1,17 +1,20 @@
--- What was read of an input, and what the reading of a workload or of a certificate returns.
+-- What was read of an input, and what the reading of a workload or of a certificate returns, in the language in which the text of the
+-- workload is written.
 -- Source: this project's own.
-use Rattle.std.specs.Prelude.{◌≡◌, ℕ, ◌+◌, ◌<◌, ◌≤◌, List, length, Result, Ok, Err}
+use Rattle.std.specs.Prelude.{◌≡◌, ℕ, ◌+◌, ◌<◌, ◌≤◌, List, length, take, drop, Result, Ok, Err}
 use Rattle.std.specs.Io.KnownBytes.{Consumes, IsAtEnd}
 use Rattle.std.specs.declared.vec.Vec.{Vec}
 use Rattle.std.specs.declared.alloc.Global.{Global}
 use Rattle.sd_types.specs.declared.works.Work.{Work}
 use Rattle.sd_types.specs.Limits.{most_workload_bytes, most_certificate_bytes}
 use Rattle.sd_declare.specs.declared.causes.WorkCause.{WorkCause}
-use Rattle.sd_workload.specs.Accepted.{Accepted, FirstCause}
 use Rattle.sd_answers.specs.Cuts.{HasNoJournal, IsCut}
+use Rattle.sd_answers.specs.Languages.{Language}
+use Rattle.sd_answers.specs.declared.cuts.Cut.{Cut}
 use Rattle.sd_answers.specs.declared.answers.Answer.{Answer}
 use Rattle.sd_answers.specs.declared.answers.Answer.TheVariants.{TooLarge, TooLargeToAudit, NoJournal, Refused, ReadFault, OutOfMemory}
 use Rattle.sd_answers.specs.declared.inputs.Certificate.{Certificate}
+use Rattle.sd_answers.specs.declared.inputs.Parts.{Parts}
 use Rattle.sd_answers.specs.StreamChanges.{StreamChange, HasFault, HasNoFault}
 
 -- the input was read to its end, without a fault, and has no more bytes than this
@@ -36,31 +39,41 @@ pub record HasTooMany (most : ℕ) (input : StreamChange) : Type 0 where
   pub many : length bytes ≡ most + 1
   pub no_fault : HasNoFault input
 
+-- ---- the text of a workload
+
+-- what has been read, or why it was not
+abbrev pub IsReadingText : StreamChange → Result (Vec ℕ Global) Answer → Type 0
+IsReadingText input (Ok bytes) = HasRead most_workload_bytes input bytes.items
+IsReadingText input (Err TooLarge) = HasTooMany most_workload_bytes input
+IsReadingText input (Err ReadFault) = HasFault input
+IsReadingText input (Err OutOfMemory) = HasAtMost most_workload_bytes input
+IsReadingText input (Err _) = ⊥
+
 -- ---- a workload
 
--- the input is an accepted workload
-pub record IsWorkload (input : StreamChange) (w : Work) : Type 0 where
+-- the input spells a workload
+pub record IsWorkload (L : Language) (input : StreamChange) (w : Work) : Type 0 where
   pub bytes : List ℕ
   pub read : HasRead most_workload_bytes input bytes
-  pub accepted : Accepted bytes w
+  pub accepted : L.Spells bytes w
 
--- the input is no accepted workload: this is the first line at fault, from 1, and the least of its causes
-pub record IsNoWorkload (input : StreamChange) (line : ℕ) (cause : WorkCause) : Type 0 where
+-- the input spells none: this is the first line at fault, from 1, and the least of its causes
+pub record IsNoWorkload (L : Language) (input : StreamChange) (line : ℕ) (cause : WorkCause) : Type 0 where
   pub bytes : List ℕ
   pub read : HasRead most_workload_bytes input bytes
-  pub first : FirstCause bytes line cause
+  pub first : L.RefusesAt bytes line cause
 
 -- why an input is no workload
-abbrev pub IsRefused : StreamChange → Answer → Type 0
-IsRefused input TooLarge = HasTooMany most_workload_bytes input
-IsRefused input (Refused line cause) = IsNoWorkload input line cause
-IsRefused input ReadFault = HasFault input
-IsRefused input OutOfMemory = HasAtMost most_workload_bytes input
-IsRefused input _ = ⊥
+abbrev pub IsRefused : Language → StreamChange → Answer → Type 0
+IsRefused L input TooLarge = HasTooMany most_workload_bytes input
+IsRefused L input (Refused line cause) = IsNoWorkload L input line cause
+IsRefused L input ReadFault = HasFault input
+IsRefused L input OutOfMemory = HasAtMost most_workload_bytes input
+IsRefused L input _ = ⊥
 
-abbrev pub IsReading : StreamChange → Result Work Answer → Type 0
-IsReading input (Ok w) = IsWorkload input w
-IsReading input (Err a) = IsRefused input a
+abbrev pub IsReading : Language → StreamChange → Result Work Answer → Type 0
+IsReading L input (Ok w) = IsWorkload L input w
+IsReading L input (Err a) = IsRefused L input a
 
 -- ---- a certificate
 
@@ -70,12 +83,19 @@ pub record HasParts (input : StreamChange) (before text : List ℕ) : Type 0 whe
   pub read : HasRead most_certificate_bytes input bytes
   pub cut : IsCut bytes before text
 
--- the input is an accepted workload, the line `journal` and this text
-pub record IsCertificate (input : StreamChange) (w : Work) (text : List ℕ) : Type 0 where
+-- the input was read to its end, and this is where it is cut: before the line `journal` stands no more than a workload may have
+pub record AreParts (input : StreamChange) (bytes : List ℕ) (cut : Cut) : Type 0 where
+  pub parts : HasParts input (take cut.workload_end bytes) (drop cut.journal_start bytes)
+  pub workload_within : cut.workload_end ≤ length bytes
+  pub journal_within : cut.journal_start ≤ length bytes
+  pub bound : length (take cut.workload_end bytes) ≤ most_workload_bytes
+
+-- the input is the text of a workload, the line `journal` and this text
+pub record IsCertificate (L : Language) (input : StreamChange) (w : Work) (text : List ℕ) : Type 0 where
   pub before : List ℕ
   pub parts : HasParts input before text
   pub bound : length before ≤ most_workload_bytes
-  pub accepted : Accepted before w
+  pub accepted : L.Spells before w
 
 -- the input was read to its end, and no line is `journal`
 pub record LacksJournal (input : StreamChange) : Type 0 where
@@ -90,27 +110,27 @@ pub record HasLargeWorkload (input : StreamChange) : Type 0 where
   pub parts : HasParts input before text
   pub many : most_workload_bytes < length before
 
--- what stands before the line `journal` is no accepted workload
-pub record HasNoWorkload (input : StreamChange) (line : ℕ) (cause : WorkCause) : Type 0 where
+-- what stands before the line `journal` spells no workload
+pub record HasNoWorkload (L : Language) (input : StreamChange) (line : ℕ) (cause : WorkCause) : Type 0 where
   pub before : List ℕ
   pub text : List ℕ
   pub parts : HasParts input before text
   pub bound : length before ≤ most_workload_bytes
-  pub first : FirstCause before line cause
+  pub first : L.RefusesAt before line cause
 
 -- why an input is no certificate
-abbrev pub IsNoCertificate : StreamChange → Answer → Type 0
-IsNoCertificate input TooLargeToAudit = HasTooMany most_certificate_bytes input
-IsNoCertificate input NoJournal = LacksJournal input
-IsNoCertificate input TooLarge = HasLargeWorkload input
-IsNoCertificate input (Refused line cause) = HasNoWorkload input line cause
-IsNoCertificate input ReadFault = HasFault input
-IsNoCertificate input OutOfMemory = HasAtMost most_certificate_bytes input
-IsNoCertificate input _ = ⊥
+abbrev pub IsNoCertificate : Language → StreamChange → Answer → Type 0
+IsNoCertificate L input TooLargeToAudit = HasTooMany most_certificate_bytes input
+IsNoCertificate L input NoJournal = LacksJournal input
+IsNoCertificate L input TooLarge = HasLargeWorkload input
+IsNoCertificate L input (Refused line cause) = HasNoWorkload L input line cause
+IsNoCertificate L input ReadFault = HasFault input
+IsNoCertificate L input OutOfMemory = HasAtMost most_certificate_bytes input
+IsNoCertificate L input _ = ⊥
 
-abbrev pub IsReadingCertificate : StreamChange → Result Certificate Answer → Type 0
-IsReadingCertificate input (Ok found) = IsCertificate input found.work found.journal.items
-IsReadingCertificate input (Err a) = IsNoCertificate input a
+abbrev pub IsReadingCertificate : Language → StreamChange → Result Certificate Answer → Type 0
+IsReadingCertificate L input (Ok found) = IsCertificate L input found.work found.journal.items
+IsReadingCertificate L input (Err a) = IsNoCertificate L input a
 
 -- the bytes of a certificate
 abbrev pub IsReadingBytes : StreamChange → Result (Vec ℕ Global) Answer → Type 0
@@ -119,3 +139,13 @@ IsReadingBytes input (Err TooLargeToAudit) = HasTooMany most_certificate_bytes i
 IsReadingBytes input (Err ReadFault) = HasFault input
 IsReadingBytes input (Err OutOfMemory) = HasAtMost most_certificate_bytes input
 IsReadingBytes input (Err _) = ⊥
+
+-- the parts of a certificate, or why there are none
+abbrev pub IsReadingParts : StreamChange → Result Parts Answer → Type 0
+IsReadingParts input (Ok found) = AreParts input found.bytes.items found.cut
+IsReadingParts input (Err TooLargeToAudit) = HasTooMany most_certificate_bytes input
+IsReadingParts input (Err NoJournal) = LacksJournal input
+IsReadingParts input (Err TooLarge) = HasLargeWorkload input
+IsReadingParts input (Err ReadFault) = HasFault input
+IsReadingParts input (Err OutOfMemory) = HasAtMost most_certificate_bytes input
+IsReadingParts input (Err _) = ⊥

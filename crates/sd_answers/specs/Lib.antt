@@ -3,6 +3,7 @@ pub mod Certificates
 pub mod Cuts
 pub mod Handing
 pub mod Inputs
+pub mod Languages
 pub mod Passing
 pub mod Refusals
 pub mod Starts

@@ -13,7 +13,7 @@ mod writing;
 pub use answers::{Answer, JournalFault};
 pub use arguments::behind_name;
 pub use cuts::{Cut, find_cut};
-pub use inputs::{Certificate, read_certificate, read_input};
+pub use inputs::{Certificate, Parts, read_certificate, read_input, read_parts, read_text};
 pub use laws::{
     accepted_texts_have_no_journal, texts_have_one_cut, texts_without_journal_have_no_cut,
 };

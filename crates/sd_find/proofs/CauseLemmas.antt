@@ -4,8 +4,6 @@ use Rattle.std.specs.Prelude.{◌⊎◌}
 use Rattle.std.specs.Result.{IsErrAnd}
 use Rattle.std.proofs.lemmas.Result.{err_from_is_err_and}
 use Rattle.sd_types.specs.declared.works.Work.{Work}
-use Rattle.sd_workload.specs.Accepted.{Accepted}
-use Rattle.sd_workload.proofs.OneLemmas.{one-work}
 use Rattle.sd_answers.specs.declared.answers.Answer.{Answer}
 use Rattle.sd_answers.specs.declared.answers.Answer.TheVariants as answer
 use Rattle.sd_answers.specs.declared.answers.Answer.TheVariants.{Usage, TooLarge, TooLargeToAudit, NoJournal, Refused, ReadFault, WriteFault, OutOfMemory, Blocked, NotAJournal, TooLong}
@@ -17,6 +15,8 @@ use Rattle.sd_answers.specs.Inputs.{IsRefused, IsWorkload}
 use Rattle.sd_answers.specs.StreamChanges.{StreamChange, IsUntouched, Puts}
 use Rattle.sd_answers.proofs.InputLemmas.{at_most_of, not_too_many as within_most, taken_all}
 use Rattle.sd_program.specs.Headline.{Refuses}
+use Rattle.sd_set_inputs.specs.Sets.{SpellsSet, sets}
+use Rattle.sd_set_inputs.proofs.SetLemmas.{sets_sound}
 use Rattle.sd_search_answers.specs.declared.forms.Aim.{Aim}
 use Rattle.sd_search_answers.specs.declared.verdicts.Told.{Told}
 use Rattle.sd_search_answers.specs.declared.verdicts.Verdict.{Verdict}
@@ -28,15 +28,15 @@ use Rattle.sd_program.proofs.TopLemmas.{not_too_many, not_refused, no_workload}
 -- ---- an input that is too large, or no workload, is no accepted one
 
 -- the workload that was read is the one that the bytes spell
-pub read_work : (input : StreamChange) (bytes : List ℕ) (work w : Work) → IsWorkload input work → input.before ≡ Some bytes → Accepted bytes w → work ≡ w
+pub read_work : (input : StreamChange) (bytes : List ℕ) (work w : Work) → IsWorkload sets input work → input.before ≡ Some bytes → SpellsSet bytes w → work ≡ w
 read_work input bytes work w found is accepted =
-    one-work bytes work w (subst (λ bs. Accepted bs work) (taken_all input.before input.after found.bytes bytes found.read.took found.read.to_end is) found.accepted) accepted
+    sets_sound.one bytes work w (subst (λ bs. SpellsSet bs work) (taken_all input.before input.after found.bytes bytes found.read.took found.read.to_end is) found.accepted) accepted
 
 -- ---- the search of an input
 
 module _ (aim : Aim) (most : ℕ) (input out : StreamChange) where
   -- the input is no workload
-  pub unread : (a : Answer) → IsRefused input a → IsUntouched out → SaysNothing aim most input out a
+  pub unread : (a : Answer) → IsRefused sets input a → IsUntouched out → SaysNothing aim most input out a
   unread TooLarge is kept = (is, kept)
   unread (Refused line cause) is kept = (is, kept)
   unread ReadFault is kept = (is, kept)
@@ -50,7 +50,7 @@ module _ (aim : Aim) (most : ℕ) (input out : StreamChange) where
   unwritten_told told unwritten.Memory of some p none = absurd (none refl)
 
   -- memory ran out in the search
-  pub unsearched : (w : Work) → IsWorkload input w → IsUntouched out → SaysNothing aim most input out OutOfMemory
+  pub unsearched : (w : Work) → IsWorkload sets input w → IsUntouched out → SaysNothing aim most input out OutOfMemory
   unsearched w is kept = (at_most_of most_workload_bytes input is.bytes is.read, kept)
 
   -- what the exit of a `?` returns
@@ -112,7 +112,7 @@ module _ (aim : Aim) (most : ℕ) (input out : StreamChange) where
   completes Said said (Err TooLarge) c = λ sound told bytes w is short accepted. absurd (not_too_many input bytes c.0 is short)
   completes Said said (Err TooLargeToAudit) c = absurd c
   completes Said said (Err NoJournal) c = absurd c
-  completes Said said (Err (Refused line cause)) c = λ sound told bytes w is short accepted. absurd (not_refused input bytes w line cause c.0 is accepted)
+  completes Said said (Err (Refused line cause)) c = λ sound told bytes w is short accepted. absurd (not_refused sets sets_sound input bytes w line cause c.0 is accepted)
   completes Said said (Err ReadFault) c = λ sound told bytes w is short accepted. absurd (sound c.0)
   completes Said said (Err WriteFault) c = λ sound told bytes w is short accepted. absurd (told c.3)
   completes Said said (Err OutOfMemory) c = λ sound told bytes w is short accepted. inr refl
@@ -120,10 +120,10 @@ module _ (aim : Aim) (most : ℕ) (input out : StreamChange) where
   completes Said said (Err (NotAJournal fault)) c = absurd c
   completes Said said (Err TooLong) c = absurd c
 
-  pub refuses : (ended : Result Verdict Answer) → CausedBySearch aim most input out ended → Refuses input (ended_status ended)
+  pub refuses : (ended : Result Verdict Answer) → CausedBySearch aim most input out ended → Refuses sets input (ended_status ended)
   refuses (Ok v) c = λ sound bytes is. (
-    λ many. absurd (no_workload input bytes is (inl many) c.of.work c.of.workload),
-    λ none. absurd (no_workload input bytes is (inr none) c.of.work c.of.workload),
+    λ many. absurd (no_workload sets input bytes is (inl many) c.of.work c.of.workload),
+    λ none. absurd (no_workload sets input bytes is (inr none) c.of.work c.of.workload),
   )
   refuses (Err answer.Done) c = absurd c
   refuses (Err Usage) c = absurd c
@@ -132,7 +132,7 @@ module _ (aim : Aim) (most : ℕ) (input out : StreamChange) where
   refuses (Err NoJournal) c = absurd c
   refuses (Err (Refused line cause)) c = λ sound bytes is. (λ many. refl, λ none. inl refl)
   refuses (Err ReadFault) c = λ sound bytes is. (λ many. absurd (sound c.0), λ none. absurd (sound c.0))
-  refuses (Err WriteFault) c = λ sound bytes is. (λ many. absurd (no_workload input bytes is (inl many) c.1.work c.1.workload), λ none. absurd (no_workload input bytes is (inr none) c.1.work c.1.workload))
+  refuses (Err WriteFault) c = λ sound bytes is. (λ many. absurd (no_workload sets input bytes is (inl many) c.1.work c.1.workload), λ none. absurd (no_workload sets input bytes is (inr none) c.1.work c.1.workload))
   refuses (Err OutOfMemory) c = λ sound bytes is. (λ many. absurd (let few = within_most most_workload_bytes input bytes c.0 is in omega arith), λ none. inr refl)
   refuses (Err Blocked) c = absurd c
   refuses (Err (NotAJournal fault)) c = absurd c

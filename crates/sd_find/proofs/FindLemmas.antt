@@ -18,6 +18,7 @@ use Rattle.sd_answers.specs.Inputs.{IsWorkload}
 use Rattle.sd_answers.specs.Starts.{WritesHelp}
 use Rattle.sd_answers.specs.StreamChanges.{StreamChange, HasNoFault, IsUntouched, TellsLine}
 use Rattle.sd_program.specs.Headline.{Refuses}
+use Rattle.sd_set_inputs.specs.Sets.{sets}
 use Rattle.sd_search_answers.specs.declared.forms.Aim.{Aim}
 use Rattle.sd_search_answers.specs.declared.forms.Aim.TheVariants.{Find, Count, Ends, Waits}
 use Rattle.sd_search_answers.specs.declared.forms.Request.{Request}
@@ -54,7 +55,7 @@ module _ (q : Question) (most : ℕ) (input out : StreamChange) where
   find_said More c = inr (inr refl)
   find_said NoThread c = absurd (not_unnamed c.of.is.finding (sym c.of.is.verdict ∙ c.verdict_is))
 
-  module _ (w : Work) (workload : IsWorkload input w) (g : Graph) (search : IsSearch w most g) (no_fault : HasNoFault out) where
+  module _ (w : Work) (workload : IsWorkload sets input w) (g : Graph) (search : IsSearch w most g) (no_fault : HasNoFault out) where
     finds : (f : Finding) → IsFinding w q f → IsShortest w q f → IsShort f → Appends out.before out.after (finding_text w q f (length (packed g))) → verdict_of f ≡ Found → FindsRun q most input out
     finds (finding.Found es) is least short text v = record {
       work = w;
@@ -252,7 +253,7 @@ promises_of arguments input out err ended status is caused told =
           subst (CompletesSearch (λ w. CountSays) input out) (sym is) (completes Count most input out (λ w. CountSays) (count_said most input out) ended (asked Count most known));
       completes_thread = λ aim name most known named.
           subst (CompletesSearch (ThreadSays name) input out) (sym is) (completes aim most input out (ThreadSays name) (thread_said aim name most input out named) ended (asked aim most known));
-      refuses = λ aim most known. subst (Refuses input) (sym is) (refuses aim most input out ended (asked aim most known));
+      refuses = λ aim most known. subst (Refuses sets input) (sym is) (refuses aim most input out ended (asked aim most known));
       refuses_name = λ aim name most known named.
           subst (RefusesName name input out err) (sym is) (refuses_name aim name most input out named err ended (asked aim most known) told);
       helps = λ known. subst (WritesHelp help_text input out) (sym is) (helps_of input out ended (helped known).0 (helped known).1);

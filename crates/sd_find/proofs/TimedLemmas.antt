@@ -14,6 +14,8 @@ use Rattle.sd_answers.specs.StreamChanges.{StreamChange, HasNoFault, IsUntouched
 use Rattle.sd_longest.specs.declared.latency.Longest.{Longest}
 use Rattle.sd_longest.specs.declared.latency.Longest.TheVariants as longest
 use Rattle.sd_longest.specs.Waits.{IsLongest, IsOpenLongest}
+use Rattle.sd_set_inputs.specs.Sets.{sets}
+use Rattle.sd_set_inputs.proofs.SetLemmas.{sets_sound}
 use Rattle.sd_search_answers.specs.declared.forms.Aim.{Aim}
 use Rattle.sd_search_answers.specs.declared.forms.Aim.TheVariants.{Find, Count, Ends, Waits}
 use Rattle.sd_search_answers.specs.declared.timings.Timing.{Timing}
@@ -34,7 +36,7 @@ use Rattle.sd_program.proofs.TopLemmas.{not_too_many, not_refused}
 
 -- ---- by what is known of the thread
 
-module _ (name : List ℕ) (most : ℕ) (input out : StreamChange) (w : Work) (workload : IsWorkload input w) (no_fault : HasNoFault out) where
+module _ (name : List ℕ) (most : ℕ) (input out : StreamChange) (w : Work) (workload : IsWorkload sets input w) (no_fault : HasNoFault out) where
   module _ (t : ThreadId) (named : IsThread w name t) (g : Graph) (search : IsSearch w most g) where
     times_by : (x : Timing) → IsTiming w t g x → AreShort x → Appends out.before out.after (timing_text w t x (length (packed g))) → timing_verdict x ≡ Found → TimesThread name most input out
     times_by (timing.Between earliest latest in_every) is short text v =
@@ -105,7 +107,7 @@ module _ (name : List ℕ) (most : ℕ) (input out : StreamChange) (w : Work) (w
 
 -- ---- the same of how long it waits
 
-module _ (name : List ℕ) (most : ℕ) (input out : StreamChange) (w : Work) (workload : IsWorkload input w) (no_fault : HasNoFault out) where
+module _ (name : List ℕ) (most : ℕ) (input out : StreamChange) (w : Work) (workload : IsWorkload sets input w) (no_fault : HasNoFault out) where
   module _ (t : ThreadId) (named : IsThread w name t) (g : Graph) (search : IsSearch w most g) where
     measures_by : (x : Longest) → IsLongest w t x → IsShortWait x → Appends out.before out.after (longest_text w x (length (packed g))) → longest_verdict x ≡ Found → MeasuresWait name most input out
     measures_by (longest.Wait ticks es) is short text v =
@@ -292,7 +294,7 @@ module _ (aim : Aim) (name : List ℕ) (most : ℕ) (input out : StreamChange) (
     refuses_name (Err TooLarge) c told = λ sound bytes w is short accepted lacks. absurd (not_too_many input bytes c.0 is short)
     refuses_name (Err TooLargeToAudit) c told = absurd c
     refuses_name (Err NoJournal) c told = absurd c
-    refuses_name (Err (Refused line cause)) c told = λ sound bytes w is short accepted lacks. absurd (not_refused input bytes w line cause c.0 is accepted)
+    refuses_name (Err (Refused line cause)) c told = λ sound bytes w is short accepted lacks. absurd (not_refused sets sets_sound input bytes w line cause c.0 is accepted)
     refuses_name (Err ReadFault) c told = λ sound bytes w is short accepted lacks. absurd (sound c.0)
     refuses_name (Err WriteFault) c told = λ sound bytes w is short accepted lacks. absurd (c.2 ((of_thread aim name most input out named).lacks c.1.work c.0 (subst (λ x. HasNoThread x name) (sym (read_work input bytes c.1.work w c.1.workload is accepted)) lacks) c.1.is).empty)
     refuses_name (Err OutOfMemory) c told = λ sound bytes w is short accepted lacks. inr refl

@@ -1,5 +1,6 @@
 -- That the run which a search found is found legal: two calls, one of `dispfind` that finds a run, when a thread ends, or how long it waits, and one of
--- `dispsim` that audits a journal which it printed. Source: this project's own.
+-- `dispsim` that audits a journal which it printed, behind the workload for which the text stands that was searched: the text itself, or that to
+-- which it expands as a task set. Source: this project's own.
 use Rattle.std.specs.Prelude.{◌≡◌, ℕ, ◌≤◌, Bool, List, [], ◌++◌, length, Some, ◌⊎◌}
 use Rattle.sd_types.specs.declared.numbers.ThreadId.{ThreadId}
 use Rattle.sd_types.specs.declared.events.Entry.{Entry}
@@ -13,6 +14,7 @@ use Rattle.sd_program.specs.declared.forms.Command.TheVariants.{Audit}
 use Rattle.sd_program.specs.Audited.{HasWholeLines, certificate_of}
 use Rattle.sd_program.specs.Forms.{command_of}
 use Rattle.sd_program.specs.Headline as program
+use Rattle.sd_set_inputs.specs.Sets.{StandsFor}
 use Rattle.sd_search_answers.specs.declared.forms.Aim.TheVariants.{Find, Ends, Waits}
 use Rattle.sd_search_answers.specs.declared.forms.Request.TheVariants.{Search}
 use Rattle.sd_search_answers.specs.Forms.{request_of}
@@ -41,8 +43,8 @@ abbrev pub WitnessesAreAudited : Type 0
 WitnessesAreAudited =
     (q : Question) (most : ℕ) (arguments : List (List ℕ)) (input out err : StreamChange) (status : ℕ) (text printed : List ℕ)
     → SearchesAsPromised arguments input out err status → request_of arguments ≡ Some (Search (Find q) most) → status ≡ 9
-    → input.before ≡ Some text → out.before ≡ Some [] → out.after ≡ Some printed → HasWholeLines text
-    → EndsWithJournal q text printed
+    → input.before ≡ Some text → out.before ≡ Some [] → out.after ≡ Some printed → (base : List ℕ) → StandsFor text base → HasWholeLines base
+    → EndsWithJournal q base printed
 
 -- what was printed has two journals, each behind the line with its tick, of which each is found legal where all of it has no more bytes than
 -- an audit takes
@@ -61,8 +63,8 @@ abbrev pub EndingsAreAudited : Type 0
 EndingsAreAudited =
     (name : List ℕ) (most : ℕ) (arguments : List (List ℕ)) (input out err : StreamChange) (status : ℕ) (text printed : List ℕ)
     → SearchesAsPromised arguments input out err status → request_of arguments ≡ Some (Search (Ends (record { items = name })) most) → status ≡ 9
-    → input.before ≡ Some text → out.before ≡ Some [] → out.after ≡ Some printed → HasWholeLines text
-    → HasJournals name text printed
+    → input.before ≡ Some text → out.before ≡ Some [] → out.after ≡ Some printed → (base : List ℕ) → StandsFor text base → HasWholeLines base
+    → HasJournals name base printed
 
 -- what was printed ends with the journal of a run, found legal where all of it has no more bytes than an audit takes
 pub record HasWait (text printed : List ℕ) : Type 0 where
@@ -77,5 +79,5 @@ abbrev pub WaitsAreAudited : Type 0
 WaitsAreAudited =
     (name : List ℕ) (most : ℕ) (arguments : List (List ℕ)) (input out err : StreamChange) (status : ℕ) (text printed : List ℕ)
     → SearchesAsPromised arguments input out err status → request_of arguments ≡ Some (Search (Waits (record { items = name })) most) → status ≡ 9
-    → input.before ≡ Some text → out.before ≡ Some [] → out.after ≡ Some printed → HasWholeLines text
-    → HasWait text printed
+    → input.before ≡ Some text → out.before ≡ Some [] → out.after ≡ Some printed → (base : List ℕ) → StandsFor text base → HasWholeLines base
+    → HasWait base printed

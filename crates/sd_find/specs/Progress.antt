@@ -10,6 +10,7 @@ use Rattle.sd_types.specs.declared.works.Work.{Work}
 use Rattle.sd_answers.specs.Inputs.{IsWorkload}
 use Rattle.sd_answers.specs.StreamChanges.{StreamChange, AppendsPart, HasFault, HasNoFault, IsUntouched, change_of}
 use Rattle.sd_search_answers.specs.Watched.{IsWatched}
+use Rattle.sd_set_inputs.specs.Sets.{sets}
 use Rattle.sd_find.specs.declared.progress.Progress.{Progress}
 use Rattle.sd_find.specs.Asked.{is_quiet}
 
@@ -36,7 +37,7 @@ Shows contents faults before after states depth = (after.alloc ≡ before.alloc)
 
 -- it is told of the search of the workload that the input spells, or of none, and nothing of it changes
 abbrev pub IsWatching : {W : Type 0} → (W → W → ℕ → ℕ → Type 0) → StreamChange → W → W → Type 0
-IsWatching Noted input before after = (after ≡ before) ⊎ ((w : Work) × IsWorkload input w × IsWatched Noted w before after)
+IsWatching Noted input before after = (after ≡ before) ⊎ ((w : Work) × IsWorkload sets input w × IsWatched Noted w before after)
 
 -- where no lines of progress are asked for nothing of it changes
 abbrev pub IsWatchingUnless : {W : Type 0} → Bool → (W → W → ℕ → ℕ → Type 0) → StreamChange → W → W → Type 0

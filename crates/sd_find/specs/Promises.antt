@@ -7,7 +7,6 @@ use Rattle.sd_types.specs.declared.numbers.ThreadId.{ThreadId}
 use Rattle.sd_types.specs.declared.events.Entry.{Entry}
 use Rattle.sd_types.specs.declared.works.Work.{Work}
 use Rattle.sd_state.specs.declared.states.State.{State}
-use Rattle.sd_workload.specs.Accepted.{Accepted}
 use Rattle.sd_search.specs.declared.graph.Graph.{Graph}
 use Rattle.sd_search.specs.declared.questions.Question.{Question}
 use Rattle.sd_search.specs.Finals.{AreFinals}
@@ -23,6 +22,7 @@ use Rattle.sd_answers.specs.Inputs.{IsWorkload}
 use Rattle.sd_answers.specs.Starts.{WritesHelp}
 use Rattle.sd_answers.specs.StreamChanges.{StreamChange, HasFault, HasNoFault, IsUntouched, TellsLine}
 use Rattle.sd_program.specs.Headline.{Refuses}
+use Rattle.sd_set_inputs.specs.Sets.{SpellsSet, sets}
 use Rattle.sd_search_answers.specs.declared.forms.Aim.{Aim}
 use Rattle.sd_search_answers.specs.declared.forms.Aim.TheVariants.{Find, Count, Ends, Waits}
 use Rattle.sd_search_answers.specs.declared.forms.Request.TheVariants.{Help, Search}
@@ -38,7 +38,7 @@ use Rattle.sd_find.specs.Shown.{IsCertified, IsShown}
 -- written says so, with its journal behind the number of states.
 pub record FindsRun (q : Question) (most : ℕ) (input out : StreamChange) : Type 0 where
   pub work : Work
-  pub workload : IsWorkload input work
+  pub workload : IsWorkload sets input work
   pub entries : List Entry
   pub shown : IsShown work q entries
   pub shortest : (es : List Entry) → IsWitness work q es → length entries ≤ length es
@@ -51,7 +51,7 @@ pub record FindsRun (q : Question) (most : ℕ) (input out : StreamChange) : Typ
 -- processors act; what was written says so.
 pub record ExcludesRuns (q : Question) (most : ℕ) (input out : StreamChange) : Type 0 where
   pub work : Work
-  pub workload : IsWorkload input work
+  pub workload : IsWorkload sets input work
   pub none : HasNoWitness work q
   pub graph : Graph
   pub search : IsSearch work most graph
@@ -67,7 +67,7 @@ pub record IsCutOff (most : ℕ) (g : Graph) : Type 0 where
 -- says no more than how many it found.
 pub record LeavesOpen (q : Question) (most : ℕ) (input out : StreamChange) : Type 0 where
   pub work : Work
-  pub workload : IsWorkload input work
+  pub workload : IsWorkload sets input work
   pub graph : Graph
   pub search : IsSearch work most graph
   pub cut_off : IsCutOff most graph
@@ -80,7 +80,7 @@ pub record LeavesOpen (q : Question) (most : ℕ) (input out : StreamChange) : T
 -- most: one has as many, and none has more. Only where runs have 2^32 - 1 entries or more, or as many as there are states, none is told.
 pub record CountsStates (most : ℕ) (input out : StreamChange) : Type 0 where
   pub work : Work
-  pub workload : IsWorkload input work
+  pub workload : IsWorkload sets input work
   pub graph : Graph
   pub search : IsSearch work most graph
   pub every : HasEveryRun work (packed graph)
@@ -95,7 +95,7 @@ pub record CountsStates (most : ℕ) (input out : StreamChange) : Type 0 where
 -- runs are complete.
 pub record HasMany (most : ℕ) (input out : StreamChange) : Type 0 where
   pub work : Work
-  pub workload : IsWorkload input work
+  pub workload : IsWorkload sets input work
   pub graph : Graph
   pub search : IsSearch work most graph
   pub cut_off : IsCutOff most graph
@@ -109,7 +109,7 @@ pub record HasMany (most : ℕ) (input out : StreamChange) : Type 0 where
 -- legal, and whether at the end of every complete run the thread has ended.
 pub record TimesThread (name : List ℕ) (most : ℕ) (input out : StreamChange) : Type 0 where
   pub work : Work
-  pub workload : IsWorkload input work
+  pub workload : IsWorkload sets input work
   pub thread : ThreadId
   pub named : IsThread work name thread
   pub earliest : Ending
@@ -127,7 +127,7 @@ pub record TimesThread (name : List ℕ) (most : ℕ) (input out : StreamChange)
 -- Status 10 there: the thread ends in no run in which each processor reads the numbers of the state.
 pub record ExcludesEnds (name : List ℕ) (most : ℕ) (input out : StreamChange) : Type 0 where
   pub work : Work
-  pub workload : IsWorkload input work
+  pub workload : IsWorkload sets input work
   pub thread : ThreadId
   pub named : IsThread work name thread
   pub none : NeverEnds work thread
@@ -140,7 +140,7 @@ pub record ExcludesEnds (name : List ℕ) (most : ℕ) (input out : StreamChange
 -- a wakeup to its running; what was written says so, with the journal of a run in which such a wait comes, which the audit finds legal.
 pub record MeasuresWait (name : List ℕ) (most : ℕ) (input out : StreamChange) : Type 0 where
   pub work : Work
-  pub workload : IsWorkload input work
+  pub workload : IsWorkload sets input work
   pub thread : ThreadId
   pub named : IsThread work name thread
   pub ticks : ℕ
@@ -155,7 +155,7 @@ pub record MeasuresWait (name : List ℕ) (most : ℕ) (input out : StreamChange
 -- Status 10 there: in no such run does the thread run after a wakeup.
 pub record ExcludesWaits (name : List ℕ) (most : ℕ) (input out : StreamChange) : Type 0 where
   pub work : Work
-  pub workload : IsWorkload input work
+  pub workload : IsWorkload sets input work
   pub thread : ThreadId
   pub named : IsThread work name thread
   pub none : (es : List Entry) (k : ℕ) → IsFreshRun work es → IsWait work thread es k → ⊥
@@ -167,7 +167,7 @@ pub record ExcludesWaits (name : List ℕ) (most : ℕ) (input out : StreamChang
 -- Status 11 where one of these two is asked: the search was cut off, and nothing is said but how many states it found.
 pub record LeavesUntimed (name : List ℕ) (most : ℕ) (input out : StreamChange) : Type 0 where
   pub work : Work
-  pub workload : IsWorkload input work
+  pub workload : IsWorkload sets input work
   pub thread : ThreadId
   pub named : IsThread work name thread
   pub graph : Graph
@@ -176,18 +176,18 @@ pub record LeavesUntimed (name : List ℕ) (most : ℕ) (input out : StreamChang
   pub written : Appends out.before out.after (more_text (length (packed graph)))
   pub no_fault : HasNoFault out
 
--- an accepted workload without a thread of this name is refused with 2 and a line that says so, and nothing is written, unless memory
+-- a workload without a thread of this name is refused with 2 and a line that says so, and nothing is written, unless memory
 -- runs out
 abbrev pub RefusesName : List ℕ → StreamChange → StreamChange → StreamChange → ℕ → Type 0
 RefusesName name input out err status =
-    (HasFault input → ⊥) → (bytes : List ℕ) (w : Work) → input.before ≡ Some bytes → length bytes ≤ most_workload_bytes → Accepted bytes w → HasNoThread w name
+    (HasFault input → ⊥) → (bytes : List ℕ) (w : Work) → input.before ≡ Some bytes → length bytes ≤ most_workload_bytes → SpellsSet bytes w → HasNoThread w name
     → ((status ≡ 2) × IsUntouched out × TellsLine err (verdict_line NoThread)) ⊎ (status ≡ 5)
 
--- an accepted workload is searched, unless memory runs out
+-- the workload that an input spells is searched, unless memory runs out
 abbrev pub CompletesSearch : (Work → ℕ → Type 0) → StreamChange → StreamChange → ℕ → Type 0
 CompletesSearch Says input out status =
     (HasFault input → ⊥) → (HasFault out → ⊥)
-    → (bytes : List ℕ) (w : Work) → input.before ≡ Some bytes → length bytes ≤ most_workload_bytes → Accepted bytes w → Says w status ⊎ (status ≡ 5)
+    → (bytes : List ℕ) (w : Work) → input.before ≡ Some bytes → length bytes ≤ most_workload_bytes → SpellsSet bytes w → Says w status ⊎ (status ≡ 5)
 
 abbrev pub FindSays : ℕ → Type 0
 FindSays status = (status ≡ 9) ⊎ ((status ≡ 10) ⊎ (status ≡ 11))
@@ -203,8 +203,8 @@ ThreadSays name w status = (t : ThreadId) → IsThread w name t → FindSays sta
 -- asked for, status 9 says that there is one, whose journal was written, and 10 that there is none. Where states are counted, status 0
 -- says that they are all. Where it is asked when a thread ends, 9 says when, with the journals of two runs, and 10 that it never does; where
 -- it is asked how long it waits, 9 says how long at most, with the journal of a run, and 10 that it never runs after a wakeup. In each, 11
--- says that not all was searched. The other sides: an accepted workload is searched, faults and out of memory aside; an input that is too
--- large or no accepted workload is refused with 2, and so is one that has no thread of the name. Where the forms are asked for they are
+-- says that not all was searched. The other sides: the workload that an input spells, itself or as a task set, is searched, faults and out
+-- of memory aside; an input that is too large or spells none is refused with 2, and so is one that has no thread of the name. Where the forms are asked for they are
 -- written, and nothing is read. And status 1 comes exactly where the arguments are of none of the forms.
 pub record SearchesAsPromised (arguments : List (List ℕ)) (input out err : StreamChange) (status : ℕ) : Type 0 where
   pub answered : IsSought arguments input out err status
@@ -221,7 +221,7 @@ pub record SearchesAsPromised (arguments : List (List ℕ)) (input out err : Str
   pub completes : (q : Question) (most : ℕ) → request_of arguments ≡ Some (Search (Find q) most) → CompletesSearch (λ w. FindSays) input out status
   pub completes_count : (most : ℕ) → request_of arguments ≡ Some (Search Count most) → CompletesSearch (λ w. CountSays) input out status
   pub completes_thread : (aim : Aim) (name : List ℕ) (most : ℕ) → request_of arguments ≡ Some (Search aim most) → name_in aim ≡ Some name → CompletesSearch (ThreadSays name) input out status
-  pub refuses : (aim : Aim) (most : ℕ) → request_of arguments ≡ Some (Search aim most) → Refuses input status
+  pub refuses : (aim : Aim) (most : ℕ) → request_of arguments ≡ Some (Search aim most) → Refuses sets input status
   pub refuses_name : (aim : Aim) (name : List ℕ) (most : ℕ) → request_of arguments ≡ Some (Search aim most) → name_in aim ≡ Some name → RefusesName name input out err status
   pub helps : request_of arguments ≡ Some Help → WritesHelp help_text input out status
   pub usage : (status ≡ 1) ↔ (request_of arguments ≡ None)

@@ -10,6 +10,7 @@ use Rattle.sd_answers.specs.Handing.{LeavesHeldBy}
 use Rattle.sd_types.specs.Limits.{most_workload_bytes}
 use Rattle.sd_answers.specs.Inputs.{HasAtMost, HasTooMany, IsNoWorkload, IsWorkload}
 use Rattle.sd_answers.specs.StreamChanges.{StreamChange, AppendsPart, HasFault, HasNoFault, IsUntouched, TellsLine}
+use Rattle.sd_set_inputs.specs.Sets.{sets}
 use Rattle.sd_search_answers.specs.declared.forms.Aim.{Aim}
 use Rattle.sd_search_answers.specs.declared.forms.Request.{Request}
 use Rattle.sd_search_answers.specs.declared.forms.Request.TheVariants.{Help, Search}
@@ -49,7 +50,7 @@ ended_line (Err answer) = answer_line answer
 
 abbrev pub help_text : List ℕ
 help_text =
-    codes "dispfind reads a workload, and searches every order in which its processors can act:\n" ++ (codes "dispfind FORM [--most N] [--quiet] < W\n"
+    codes "dispfind reads a workload or a task set, and searches every order in which its processors can act:\n" ++ (codes "dispfind FORM [--most N] [--quiet] < W\n"
     ++ (codes "blocked    a run at whose end threads block each other in a circle\n" ++ (codes "stuck      a run at whose end a thread that has operations left has not ended\n"
     ++ (codes "states     how many states there are, and in how many of them runs end\n" ++ (codes "ends NAME  at which tick thread NAME ends at the earliest and at the latest\n"
     ++ (codes "waits NAME how many ticks thread NAME waits at most from a wakeup to its running\n" ++ (codes "--most N   ends with N states; 1000000 where it is not given\n"
@@ -59,10 +60,10 @@ help_text =
 
 -- ---- an answer and its cause
 
--- the input is an accepted workload, and this is said of it
+-- the input spells a workload, and this is said of it
 pub record IsToldOf (aim : Aim) (most : ℕ) (input : StreamChange) (told : Told) : Type 0 where
   pub work : Work
-  pub workload : IsWorkload input work
+  pub workload : IsWorkload sets input work
   pub is : IsTold work aim most told
 
 -- what is said was written whole; where that is nothing the output was left alone
@@ -77,7 +78,7 @@ pub record Says (aim : Aim) (most : ℕ) (input out : StreamChange) (verdict : V
 -- why nothing was said, or not all of it was written
 abbrev pub SaysNothing : Aim → ℕ → StreamChange → StreamChange → Answer → Type 0
 SaysNothing aim most input out TooLarge = HasTooMany most_workload_bytes input × IsUntouched out
-SaysNothing aim most input out (Refused line cause) = IsNoWorkload input line cause × IsUntouched out
+SaysNothing aim most input out (Refused line cause) = IsNoWorkload sets input line cause × IsUntouched out
 SaysNothing aim most input out ReadFault = HasFault input × IsUntouched out
 SaysNothing aim most input out WriteFault = (told : Told) × IsToldOf aim most input told × (told.text.items ≡ [] → ⊥) × HasFault out × AppendsPart out.before out.after told.text.items
 SaysNothing aim most input out OutOfMemory = HasAtMost most_workload_bytes input × IsUntouched out

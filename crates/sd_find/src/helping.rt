@@ -8,7 +8,7 @@ use sd_search_answers::Verdict;
 use sd_text::Sink;
 
 const HELP: &[u8] =
-    b"dispfind reads a workload, and searches every order in which its processors can act:
+    b"dispfind reads a workload or a task set, and searches every order in which its processors can act:
 dispfind FORM [--most N] [--quiet] < W
 blocked    a run at whose end threads block each other in a circle
 stuck      a run at whose end a thread that has operations left has not ended

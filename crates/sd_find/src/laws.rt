@@ -4,7 +4,7 @@ ghost use Rattle.sd_find.specs.Audited.{EndingsAreAudited, WaitsAreAudited, Witn
 
 /// The journal that a search printed, behind the line with the number of states, is found legal by `dispsim audit`, behind its
 /// workload and the line `journal`, where all this has no more bytes than an audit takes and the workload's last line has its
-/// newline.
+/// newline. The workload is the text that was searched, or that to which it expands as a task set.
 pub fn witnesses_are_audited()
     ensures { WitnessesAreAudited }
 {}

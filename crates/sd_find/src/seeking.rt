@@ -1,4 +1,4 @@
-//! The search of the workload that an input spells.
+//! The search of the workload that an input spells, itself or as a task set.
 
 ghost use Rattle.std.specs.Prelude.{◌≡◌, ◌≢◌, [], IsErrOf, IsOk};
 ghost use Rattle.sd_text.specs.Lines.{EndsLine};
@@ -7,8 +7,9 @@ ghost use Rattle.sd_answers.specs.declared.writing.Unwritten.TheVariants.{Memory
 ghost use Rattle.sd_find.specs.Progress.{IsWatching, IsWatchingUnless};
 ghost use Rattle.sd_find.specs.Seeking.{CausedBySearch, LeavesHeldAtEnd};
 
-use sd_answers::{Answer, Unwritten, print_text, read_input};
+use sd_answers::{Answer, Unwritten, print_text};
 use sd_search_answers::{Aim, Unwatched, Verdict, Watch, tell};
+use sd_set_inputs::read_input;
 use sd_text::{Sink, Source};
 use std::alloc::Global;
 
@@ -28,7 +29,7 @@ fn print_said<K: Sink>(out: &mut K, text: &[u8]) -> Result<(), Unwritten>
     }
 }
 
-/// Reads a workload, searches it and writes what is said of it. Nothing is written before the search has ended.
+/// Reads a workload or a task set, searches it and writes what is said of it. Nothing is written before the search has ended.
 pub(crate) fn seek<S: Source, K: Sink, W: Watch>(
     alloc: Global,
     aim: &Aim,

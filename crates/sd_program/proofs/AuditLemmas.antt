@@ -4,7 +4,9 @@ use Rattle.sd_answers.specs.declared.answers.Answer.{Answer}
 use Rattle.sd_answers.specs.declared.answers.Answer.TheVariants.{Done, Usage, TooLarge, TooLargeToAudit, NoJournal, Refused, ReadFault, WriteFault, OutOfMemory, Blocked, NotAJournal, TooLong}
 use Rattle.sd_answers.specs.Answers.{status_of}
 use Rattle.sd_answers.specs.Certificates.{CompletesCertificate, HoldsJournal, RefusesCertificate, RefusesFaulty, RefusesJournal}
+use Rattle.sd_answers.specs.Languages.{workloads}
 use Rattle.sd_answers.specs.StreamChanges.{StreamChange}
+use Rattle.sd_answers.proofs.InputLemmas.{workloads_sound}
 use Rattle.sd_answers.proofs.CertificateLemmas.{completes_of, faulty_of, refuses_certificate_of, refuses_faulty_of, writes_of}
 use Rattle.sd_program.specs.declared.forms.Command.TheVariants.{Audit}
 use Rattle.sd_program.specs.Forms.{command_of}
@@ -28,21 +30,21 @@ audit_of arguments input out (NotAJournal fault) known c = subst (λ k. CausedBy
 audit_of arguments input out TooLong known c = subst (λ k. CausedByCommand k input out TooLong) (same_command arguments c.0 Audit c.1 known) c.2
 
 -- what is found legal is the journal of a run
-held : (input : StreamChange) (n : ℕ) → IsLegal input n → HoldsJournal input
+held : (input : StreamChange) (n : ℕ) → IsLegal input n → HoldsJournal workloads input
 held input n l = record { work = l.work; text = l.text; certificate = l.certificate; journal = (l.final, n, l.journal) }
 
 module _ (input out : StreamChange) (a : Answer) (c : CausedByAudit input out a) where
   pub audits_of : status_of a ≡ 0 → CertifiesInput input out
-  audits_of zero = writes_of (IsLegal input) legal_text input out a c zero
+  audits_of zero = writes_of workloads workloads_sound (IsLegal input) legal_text input out a c zero
 
-  pub faults_of : status_of a ≡ 7 → RefusesJournal input out
-  faults_of seven = faulty_of (IsLegal input) legal_text input out a c seven
+  pub faults_of : status_of a ≡ 7 → RefusesJournal workloads input out
+  faults_of seven = faulty_of workloads workloads_sound (IsLegal input) legal_text input out a c seven
 
-  pub completes_audit_of : CompletesCertificate input out (status_of a)
-  completes_audit_of = completes_of (IsLegal input) legal_text input out a c
+  pub completes_audit_of : CompletesCertificate workloads input out (status_of a)
+  completes_audit_of = completes_of workloads workloads_sound (IsLegal input) legal_text input out a c
 
-  pub refuses_faulty_audit : RefusesFaulty input (status_of a)
-  refuses_faulty_audit = refuses_faulty_of (IsLegal input) legal_text input out (held input) a c
+  pub refuses_faulty_audit : RefusesFaulty workloads input (status_of a)
+  refuses_faulty_audit = refuses_faulty_of workloads workloads_sound (IsLegal input) legal_text input out (held input) a c
 
-  pub refuses_audit_of : RefusesCertificate input (status_of a)
-  refuses_audit_of = refuses_certificate_of (IsLegal input) legal_text input out (held input) a c
+  pub refuses_audit_of : RefusesCertificate workloads input (status_of a)
+  refuses_audit_of = refuses_certificate_of workloads workloads_sound (IsLegal input) legal_text input out (held input) a c

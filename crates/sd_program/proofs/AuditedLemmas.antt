@@ -12,6 +12,7 @@ use Rattle.sd_audit.specs.Audits.{IsJournal}
 use Rattle.sd_answers.specs.Certificates.{IsLegalJournal, Certifies}
 use Rattle.sd_types.specs.Limits.{most_certificate_bytes}
 use Rattle.sd_answers.specs.Inputs.{IsWorkload}
+use Rattle.sd_answers.specs.Languages.{workloads}
 use Rattle.sd_answers.specs.StreamChanges.{StreamChange}
 use Rattle.sd_answers.proofs.InputLemmas.{taken_all}
 use Rattle.sd_answers.proofs.WordLemmas.{no_journal_line}
@@ -26,7 +27,7 @@ module _ (mode : Mode) (input out : StreamChange) (text printed : List ℕ) (is 
   printed_journal : (w : Work) (es : List Entry) → Appends out.before out.after (journal w es) → printed ≡ journal w es
   printed_journal w es appended = same_Some printed (journal w es) (sym holds ∙ Appends-told out.before out.after [] (journal w es) appended empty)
 
-  certified : (w : Work) (P : List Entry → Type 0) → IsWorkload input w → Writes w (Journal mode) out P → Certifies (certificate_of text printed) printed (IsLegalJournal printed)
+  certified : (w : Work) (P : List Entry → Type 0) → IsWorkload workloads input w → Writes w (Journal mode) out P → Certifies workloads (certificate_of text printed) printed (IsLegalJournal printed)
   certified w P found (es, run, appended, none, ends) =
       let same = taken_all input.before input.after found.bytes text found.read.took found.read.to_end is in
       let accepted : Accepted text w = subst (λ (bs : List ℕ). Accepted bs w) same found.accepted in

@@ -4,6 +4,7 @@ use Rattle.std.specs.Prelude.{◌⊎◌, ◌↔◌}
 use Rattle.sd_answers.specs.declared.answers.Answer.{Answer}
 use Rattle.sd_answers.specs.Answers.{status_of}
 use Rattle.sd_answers.specs.Certificates.{CompletesCertificate, RefusesCertificate, RefusesFaulty}
+use Rattle.sd_answers.specs.Languages.{workloads}
 use Rattle.sd_answers.specs.StreamChanges.{StreamChange}
 use Rattle.sd_program.specs.Forms.{command_of}
 use Rattle.sd_program.specs.Headline.{Caused, Tells, Completes, CompletesTables, Refuses, KeepsPromises}
@@ -23,10 +24,10 @@ promises_of arguments input out err a status is caused told = record {
   completes = λ form known. subst (λ s. Completes form input out s) (sym is) (completes_of arguments form input out a known caused);
   completes_tables = λ known. subst (λ s. CompletesTables input out s) (sym is) (completes_tables_of arguments input out a known caused);
   completes_generated = λ n known sound. subst (λ s. (s ≡ 0) ⊎ (s ≡ 5)) (sym is) (completes_generated_of arguments n input out a known caused sound);
-  completes_audit = λ known. subst (λ s. CompletesCertificate input out s) (sym is) (completes_audit_of input out a (audit_of arguments input out a known caused));
-  refuses = λ form known. subst (λ s. Refuses input s) (sym is) (refuses_of arguments form input out a known caused);
-  refuses_tables = λ known. subst (λ s. Refuses input s) (sym is) (refuses_tables_of arguments input out a known caused);
-  refuses_audit = λ known. subst (λ s. RefusesCertificate input s) (sym is) (refuses_audit_of input out a (audit_of arguments input out a known caused));
-  refuses_faulty = λ known. subst (λ s. RefusesFaulty input s) (sym is) (refuses_faulty_audit input out a (audit_of arguments input out a known caused));
+  completes_audit = λ known. subst (λ s. CompletesCertificate workloads input out s) (sym is) (completes_audit_of input out a (audit_of arguments input out a known caused));
+  refuses = λ form known. subst (λ s. Refuses workloads input s) (sym is) (refuses_of arguments form input out a known caused);
+  refuses_tables = λ known. subst (λ s. Refuses workloads input s) (sym is) (refuses_tables_of arguments input out a known caused);
+  refuses_audit = λ known. subst (λ s. RefusesCertificate workloads input s) (sym is) (refuses_audit_of input out a (audit_of arguments input out a known caused));
+  refuses_faulty = λ known. subst (λ s. RefusesFaulty workloads input s) (sym is) (refuses_faulty_audit input out a (audit_of arguments input out a known caused));
   usage = subst (λ s. (s ≡ 1) ↔ (command_of arguments ≡ None)) (sym is) (usage_of arguments input out a caused);
 }

@@ -10,7 +10,6 @@ use Rattle.sd_types.specs.declared.events.Entry.{Entry}
 use Rattle.sd_types.specs.declared.events.Stop.{Stop}
 use Rattle.sd_types.specs.declared.events.Stop.TheVariants as stop
 use Rattle.sd_declare.specs.declared.causes.WorkCause.{WorkCause}
-use Rattle.sd_workload.specs.Accepted.{Accepted, FirstCause}
 use Rattle.sd_rounds.specs.declared.rounds.Finished.{Finished}
 use Rattle.sd_program.specs.declared.forms.Form.{Form}
 use Rattle.sd_program.specs.declared.forms.Form.TheVariants.{Journal, Summary}
@@ -29,7 +28,8 @@ use Rattle.sd_program.specs.RunAnswers.{IsLong, Ran}
 use Rattle.sd_program.specs.TheRun.{IsTheRun}
 use Rattle.sd_types.specs.Limits.{most_workload_bytes}
 use Rattle.sd_answers.specs.Inputs.{HasAtMost, HasTooMany, IsWorkload, IsNoWorkload, IsRefused}
-use Rattle.sd_answers.proofs.InputLemmas.{taken_within, taken_all, at_most_of, not_too_many as within_most, not_both}
+use Rattle.sd_answers.specs.Languages.{Language, IsSound, workloads}
+use Rattle.sd_answers.proofs.InputLemmas.{taken_within, taken_all, at_most_of, not_too_many as within_most, workloads_sound}
 use Rattle.sd_program.specs.Headline.{RanInput, CausedByInput, PrintsTables, CausedByTables, CausedByNumber, CausedByCommand, Caused, Completes, CompletesTables, Refuses}
 
 -- what the arguments ask for is one thing
@@ -85,10 +85,10 @@ not_too_many input bytes many is short =
     let count = many.many in
     absurd (omega arith)
 
-pub not_refused : (input : StreamChange) (bytes : List ℕ) (w : Work) (line : ℕ) (cause : WorkCause) → IsNoWorkload input line cause → input.before ≡ Some bytes → Accepted bytes w → ⊥
-not_refused input bytes w line cause none is accepted =
-    not_both bytes w line cause accepted
-    (subst (λ bs. FirstCause bs line cause) (taken_all input.before input.after none.bytes bytes none.read.took none.read.to_end is) none.first)
+pub not_refused : (L : Language) → IsSound L → (input : StreamChange) (bytes : List ℕ) (w : Work) (line : ℕ) (cause : WorkCause) → IsNoWorkload L input line cause → input.before ≡ Some bytes → L.Spells bytes w → ⊥
+not_refused L lawful input bytes w line cause none is accepted =
+    lawful.not_both bytes w line cause accepted
+    (subst (λ bs. L.RefusesAt bs line cause) (taken_all input.before input.after none.bytes bytes none.read.took none.read.to_end is) none.first)
 
 pub completes_of : (arguments : List (List ℕ)) (form : Form) (input out : StreamChange) (a : Answer) → command_of arguments ≡ Some (Run form) → Caused arguments input out a → Completes form input out (status_of a)
 completes_of arguments form input out Done known c = λ sound told bytes w is short accepted. inl refl
@@ -97,7 +97,7 @@ completes_of arguments form input out TooLarge known c = λ sound told bytes w i
 completes_of arguments form input out TooLargeToAudit known c = λ sound told bytes w is short accepted. absurd (subst (λ k. CausedByCommand k input out TooLargeToAudit) (same_command arguments c.0 (Run form) c.1 known) c.2)
 completes_of arguments form input out NoJournal known c = λ sound told bytes w is short accepted. absurd (subst (λ k. CausedByCommand k input out NoJournal) (same_command arguments c.0 (Run form) c.1 known) c.2)
 completes_of arguments form input out (NotAJournal fault) known c = λ sound told bytes w is short accepted. absurd (subst (λ k. CausedByCommand k input out (NotAJournal fault)) (same_command arguments c.0 (Run form) c.1 known) c.2)
-completes_of arguments form input out (Refused line cause) known c = λ sound told bytes w is short accepted. absurd (not_refused input bytes w line cause (subst (λ k. CausedByCommand k input out (Refused line cause)) (same_command arguments c.0 (Run form) c.1 known) c.2).0 is accepted)
+completes_of arguments form input out (Refused line cause) known c = λ sound told bytes w is short accepted. absurd (not_refused workloads workloads_sound input bytes w line cause (subst (λ k. CausedByCommand k input out (Refused line cause)) (same_command arguments c.0 (Run form) c.1 known) c.2).0 is accepted)
 completes_of arguments form input out ReadFault known c = λ sound told bytes w is short accepted. absurd (sound (subst (λ k. CausedByCommand k input out ReadFault) (same_command arguments c.0 (Run form) c.1 known) c.2).0)
 completes_of arguments form input out WriteFault known c = λ sound told bytes w is short accepted. absurd (told (subst (λ k. CausedByCommand k input out WriteFault) (same_command arguments c.0 (Run form) c.1 known) c.2).2.0)
 completes_of arguments form input out OutOfMemory known c = λ sound told bytes w is short accepted. inr (inr (inl refl))
@@ -111,7 +111,7 @@ completes_tables_of arguments input out TooLarge known c = λ sound told bytes w
 completes_tables_of arguments input out TooLargeToAudit known c = λ sound told bytes w is short accepted. absurd (subst (λ k. CausedByCommand k input out TooLargeToAudit) (same_command arguments c.0 Tables c.1 known) c.2)
 completes_tables_of arguments input out NoJournal known c = λ sound told bytes w is short accepted. absurd (subst (λ k. CausedByCommand k input out NoJournal) (same_command arguments c.0 Tables c.1 known) c.2)
 completes_tables_of arguments input out (NotAJournal fault) known c = λ sound told bytes w is short accepted. absurd (subst (λ k. CausedByCommand k input out (NotAJournal fault)) (same_command arguments c.0 Tables c.1 known) c.2)
-completes_tables_of arguments input out (Refused line cause) known c = λ sound told bytes w is short accepted. absurd (not_refused input bytes w line cause (subst (λ k. CausedByCommand k input out (Refused line cause)) (same_command arguments c.0 Tables c.1 known) c.2).0 is accepted)
+completes_tables_of arguments input out (Refused line cause) known c = λ sound told bytes w is short accepted. absurd (not_refused workloads workloads_sound input bytes w line cause (subst (λ k. CausedByCommand k input out (Refused line cause)) (same_command arguments c.0 Tables c.1 known) c.2).0 is accepted)
 completes_tables_of arguments input out ReadFault known c = λ sound told bytes w is short accepted. absurd (sound (subst (λ k. CausedByCommand k input out ReadFault) (same_command arguments c.0 Tables c.1 known) c.2).0)
 completes_tables_of arguments input out WriteFault known c = λ sound told bytes w is short accepted. absurd (told (subst (λ k. CausedByCommand k input out WriteFault) (same_command arguments c.0 Tables c.1 known) c.2).2)
 completes_tables_of arguments input out OutOfMemory known c = λ sound told bytes w is short accepted. inr refl
@@ -133,20 +133,20 @@ completes_generated_of arguments n input out Blocked known c = λ told. absurd (
 completes_generated_of arguments n input out TooLong known c = λ told. absurd (subst (λ k. CausedByCommand k input out TooLong) (same_command arguments c.0 (Generate n) c.1 known) c.2).1
 
 -- an input that is too large, or no workload, is no accepted one
-pub no_workload : (input : StreamChange) (bytes : List ℕ) → input.before ≡ Some bytes → (most_workload_bytes < length bytes) ⊎ ((w : Work) → Accepted bytes w → ⊥) → (w : Work) → IsWorkload input w → ⊥
-no_workload input bytes is (inl many) w found =
+pub no_workload : (L : Language) (input : StreamChange) (bytes : List ℕ) → input.before ≡ Some bytes → (most_workload_bytes < length bytes) ⊎ ((w : Work) → L.Spells bytes w → ⊥) → (w : Work) → IsWorkload L input w → ⊥
+no_workload L input bytes is (inl many) w found =
     let all = taken_all input.before input.after found.bytes bytes found.read.took found.read.to_end is in
     let bound = found.read.bound in
     absurd (omega (arith, ap length all))
-no_workload input bytes is (inr none) w found =
-    none w (subst (λ bs. Accepted bs w) (taken_all input.before input.after found.bytes bytes found.read.took found.read.to_end is) found.accepted)
+no_workload L input bytes is (inr none) w found =
+    none w (subst (λ bs. L.Spells bs w) (taken_all input.before input.after found.bytes bytes found.read.took found.read.to_end is) found.accepted)
 
 -- nor has it no more bytes than it may have
 too_many_for : (input : StreamChange) (bytes : List ℕ) → HasAtMost most_workload_bytes input → input.before ≡ Some bytes → most_workload_bytes < length bytes → status_of OutOfMemory ≡ 2
 too_many_for input bytes few is many = let within = within_most most_workload_bytes input bytes few is in absurd (omega arith)
 
-pub refuses_of : (arguments : List (List ℕ)) (form : Form) (input out : StreamChange) (a : Answer) → command_of arguments ≡ Some (Run form) → Caused arguments input out a → Refuses input (status_of a)
-refuses_of arguments form input out Done known c = λ sound bytes is. (λ many. let d = subst (λ k. CausedByCommand k input out Done) (same_command arguments c.0 (Run form) c.1 known) c.2 in absurd (no_workload input bytes is (inl many) d.0 d.1), λ none. let d = subst (λ k. CausedByCommand k input out Done) (same_command arguments c.0 (Run form) c.1 known) c.2 in absurd (no_workload input bytes is (inr none) d.0 d.1))
+pub refuses_of : (arguments : List (List ℕ)) (form : Form) (input out : StreamChange) (a : Answer) → command_of arguments ≡ Some (Run form) → Caused arguments input out a → Refuses workloads input (status_of a)
+refuses_of arguments form input out Done known c = λ sound bytes is. (λ many. let d = subst (λ k. CausedByCommand k input out Done) (same_command arguments c.0 (Run form) c.1 known) c.2 in absurd (no_workload workloads input bytes is (inl many) d.0 d.1), λ none. let d = subst (λ k. CausedByCommand k input out Done) (same_command arguments c.0 (Run form) c.1 known) c.2 in absurd (no_workload workloads input bytes is (inr none) d.0 d.1))
 refuses_of arguments form input out Usage known c = λ sound bytes is. (λ many. absurd (some_command arguments (Run form) known c.0), λ none. absurd (some_command arguments (Run form) known c.0))
 refuses_of arguments form input out TooLarge known c = λ sound bytes is. (λ many. refl, λ none. inl refl)
 refuses_of arguments form input out TooLargeToAudit known c = λ sound bytes is. (λ many. absurd (subst (λ k. CausedByCommand k input out TooLargeToAudit) (same_command arguments c.0 (Run form) c.1 known) c.2), λ none. absurd (subst (λ k. CausedByCommand k input out TooLargeToAudit) (same_command arguments c.0 (Run form) c.1 known) c.2))
@@ -154,13 +154,13 @@ refuses_of arguments form input out NoJournal known c = λ sound bytes is. (λ m
 refuses_of arguments form input out (NotAJournal fault) known c = λ sound bytes is. (λ many. absurd (subst (λ k. CausedByCommand k input out (NotAJournal fault)) (same_command arguments c.0 (Run form) c.1 known) c.2), λ none. absurd (subst (λ k. CausedByCommand k input out (NotAJournal fault)) (same_command arguments c.0 (Run form) c.1 known) c.2))
 refuses_of arguments form input out (Refused line cause) known c = λ sound bytes is. (λ many. refl, λ none. inl refl)
 refuses_of arguments form input out ReadFault known c = λ sound bytes is. (λ many. absurd (sound (subst (λ k. CausedByCommand k input out ReadFault) (same_command arguments c.0 (Run form) c.1 known) c.2).0), λ none. absurd (sound (subst (λ k. CausedByCommand k input out ReadFault) (same_command arguments c.0 (Run form) c.1 known) c.2).0))
-refuses_of arguments form input out WriteFault known c = λ sound bytes is. (λ many. let d = subst (λ k. CausedByCommand k input out WriteFault) (same_command arguments c.0 (Run form) c.1 known) c.2 in absurd (no_workload input bytes is (inl many) d.0 d.1), λ none. let d = subst (λ k. CausedByCommand k input out WriteFault) (same_command arguments c.0 (Run form) c.1 known) c.2 in absurd (no_workload input bytes is (inr none) d.0 d.1))
+refuses_of arguments form input out WriteFault known c = λ sound bytes is. (λ many. let d = subst (λ k. CausedByCommand k input out WriteFault) (same_command arguments c.0 (Run form) c.1 known) c.2 in absurd (no_workload workloads input bytes is (inl many) d.0 d.1), λ none. let d = subst (λ k. CausedByCommand k input out WriteFault) (same_command arguments c.0 (Run form) c.1 known) c.2 in absurd (no_workload workloads input bytes is (inr none) d.0 d.1))
 refuses_of arguments form input out OutOfMemory known c = λ sound bytes is. (λ many. let d = subst (λ k. CausedByCommand k input out OutOfMemory) (same_command arguments c.0 (Run form) c.1 known) c.2 in too_many_for input bytes d.0 is many, λ none. inr refl)
-refuses_of arguments form input out Blocked known c = λ sound bytes is. (λ many. let d = subst (λ k. CausedByCommand k input out Blocked) (same_command arguments c.0 (Run form) c.1 known) c.2 in absurd (no_workload input bytes is (inl many) d.0 d.1), λ none. let d = subst (λ k. CausedByCommand k input out Blocked) (same_command arguments c.0 (Run form) c.1 known) c.2 in absurd (no_workload input bytes is (inr none) d.0 d.1))
-refuses_of arguments form input out TooLong known c = λ sound bytes is. (λ many. let d = subst (λ k. CausedByCommand k input out TooLong) (same_command arguments c.0 (Run form) c.1 known) c.2 in absurd (no_workload input bytes is (inl many) d.0 d.1), λ none. let d = subst (λ k. CausedByCommand k input out TooLong) (same_command arguments c.0 (Run form) c.1 known) c.2 in absurd (no_workload input bytes is (inr none) d.0 d.1))
+refuses_of arguments form input out Blocked known c = λ sound bytes is. (λ many. let d = subst (λ k. CausedByCommand k input out Blocked) (same_command arguments c.0 (Run form) c.1 known) c.2 in absurd (no_workload workloads input bytes is (inl many) d.0 d.1), λ none. let d = subst (λ k. CausedByCommand k input out Blocked) (same_command arguments c.0 (Run form) c.1 known) c.2 in absurd (no_workload workloads input bytes is (inr none) d.0 d.1))
+refuses_of arguments form input out TooLong known c = λ sound bytes is. (λ many. let d = subst (λ k. CausedByCommand k input out TooLong) (same_command arguments c.0 (Run form) c.1 known) c.2 in absurd (no_workload workloads input bytes is (inl many) d.0 d.1), λ none. let d = subst (λ k. CausedByCommand k input out TooLong) (same_command arguments c.0 (Run form) c.1 known) c.2 in absurd (no_workload workloads input bytes is (inr none) d.0 d.1))
 
-pub refuses_tables_of : (arguments : List (List ℕ)) (input out : StreamChange) (a : Answer) → command_of arguments ≡ Some Tables → Caused arguments input out a → Refuses input (status_of a)
-refuses_tables_of arguments input out Done known c = λ sound bytes is. (λ many. let d = subst (λ k. CausedByCommand k input out Done) (same_command arguments c.0 Tables c.1 known) c.2 in absurd (no_workload input bytes is (inl many) d.0 d.1), λ none. let d = subst (λ k. CausedByCommand k input out Done) (same_command arguments c.0 Tables c.1 known) c.2 in absurd (no_workload input bytes is (inr none) d.0 d.1))
+pub refuses_tables_of : (arguments : List (List ℕ)) (input out : StreamChange) (a : Answer) → command_of arguments ≡ Some Tables → Caused arguments input out a → Refuses workloads input (status_of a)
+refuses_tables_of arguments input out Done known c = λ sound bytes is. (λ many. let d = subst (λ k. CausedByCommand k input out Done) (same_command arguments c.0 Tables c.1 known) c.2 in absurd (no_workload workloads input bytes is (inl many) d.0 d.1), λ none. let d = subst (λ k. CausedByCommand k input out Done) (same_command arguments c.0 Tables c.1 known) c.2 in absurd (no_workload workloads input bytes is (inr none) d.0 d.1))
 refuses_tables_of arguments input out Usage known c = λ sound bytes is. (λ many. absurd (some_command arguments Tables known c.0), λ none. absurd (some_command arguments Tables known c.0))
 refuses_tables_of arguments input out TooLarge known c = λ sound bytes is. (λ many. refl, λ none. inl refl)
 refuses_tables_of arguments input out TooLargeToAudit known c = λ sound bytes is. (λ many. absurd (subst (λ k. CausedByCommand k input out TooLargeToAudit) (same_command arguments c.0 Tables c.1 known) c.2), λ none. absurd (subst (λ k. CausedByCommand k input out TooLargeToAudit) (same_command arguments c.0 Tables c.1 known) c.2))
@@ -168,7 +168,7 @@ refuses_tables_of arguments input out NoJournal known c = λ sound bytes is. (λ
 refuses_tables_of arguments input out (NotAJournal fault) known c = λ sound bytes is. (λ many. absurd (subst (λ k. CausedByCommand k input out (NotAJournal fault)) (same_command arguments c.0 Tables c.1 known) c.2), λ none. absurd (subst (λ k. CausedByCommand k input out (NotAJournal fault)) (same_command arguments c.0 Tables c.1 known) c.2))
 refuses_tables_of arguments input out (Refused line cause) known c = λ sound bytes is. (λ many. refl, λ none. inl refl)
 refuses_tables_of arguments input out ReadFault known c = λ sound bytes is. (λ many. absurd (sound (subst (λ k. CausedByCommand k input out ReadFault) (same_command arguments c.0 Tables c.1 known) c.2).0), λ none. absurd (sound (subst (λ k. CausedByCommand k input out ReadFault) (same_command arguments c.0 Tables c.1 known) c.2).0))
-refuses_tables_of arguments input out WriteFault known c = λ sound bytes is. (λ many. let d = subst (λ k. CausedByCommand k input out WriteFault) (same_command arguments c.0 Tables c.1 known) c.2 in absurd (no_workload input bytes is (inl many) d.0 d.1), λ none. let d = subst (λ k. CausedByCommand k input out WriteFault) (same_command arguments c.0 Tables c.1 known) c.2 in absurd (no_workload input bytes is (inr none) d.0 d.1))
+refuses_tables_of arguments input out WriteFault known c = λ sound bytes is. (λ many. let d = subst (λ k. CausedByCommand k input out WriteFault) (same_command arguments c.0 Tables c.1 known) c.2 in absurd (no_workload workloads input bytes is (inl many) d.0 d.1), λ none. let d = subst (λ k. CausedByCommand k input out WriteFault) (same_command arguments c.0 Tables c.1 known) c.2 in absurd (no_workload workloads input bytes is (inr none) d.0 d.1))
 refuses_tables_of arguments input out OutOfMemory known c = λ sound bytes is. (λ many. let d = subst (λ k. CausedByCommand k input out OutOfMemory) (same_command arguments c.0 Tables c.1 known) c.2 in too_many_for input bytes d.0 is many, λ none. inr refl)
 refuses_tables_of arguments input out Blocked known c = λ sound bytes is. (λ many. absurd (subst (λ k. CausedByCommand k input out Blocked) (same_command arguments c.0 Tables c.1 known) c.2), λ none. absurd (subst (λ k. CausedByCommand k input out Blocked) (same_command arguments c.0 Tables c.1 known) c.2))
 refuses_tables_of arguments input out TooLong known c = λ sound bytes is. (λ many. absurd (subst (λ k. CausedByCommand k input out TooLong) (same_command arguments c.0 Tables c.1 known) c.2), λ none. absurd (subst (λ k. CausedByCommand k input out TooLong) (same_command arguments c.0 Tables c.1 known) c.2))
@@ -180,7 +180,7 @@ usage_of arguments input out a c = (λ e. absurd (omega arith), λ other. absurd
 
 -- ---- the answer of the run of an input
 
-pub refused_of : (form : Form) (input out : StreamChange) (a : Answer) → IsRefused input a → IsUntouched out → CausedByInput form input out a
+pub refused_of : (form : Form) (input out : StreamChange) (a : Answer) → IsRefused workloads input a → IsUntouched out → CausedByInput form input out a
 refused_of form input out TooLarge refused kept = (refused, kept)
 refused_of form input out (Refused line cause) refused kept = (refused, kept)
 refused_of form input out ReadFault refused kept = (refused, kept)
@@ -188,7 +188,7 @@ refused_of form input out OutOfMemory refused kept = (refused, kept.no_fault, in
 refused_of form input out a refused kept = absurd refused
 
 -- the tables were not written whole
-pub tables_unwritten : (input out : StreamChange) (w : Work) (e : Unwritten) → IsWorkload input w → Puts out.before out.after out.faults_before out.faults_after (tables_text w) (Err e)
+pub tables_unwritten : (input out : StreamChange) (w : Work) (e : Unwritten) → IsWorkload workloads input w → Puts out.before out.after out.faults_before out.faults_after (tables_text w) (Err e)
     → (e ≡ unwritten.Memory → out.after ≡ out.before) → CausedByTables input out (unwritten_answer e)
 tables_unwritten input out w unwritten.Fault is p kept = (w, is, p.fault refl, p.part)
 tables_unwritten input out w unwritten.Memory is p kept = (at_most_of most_workload_bytes input is.bytes is.read, record { bytes = kept refl; no_fault = p.no_fault (λ e. cc) })
@@ -204,7 +204,7 @@ caused_exit form input out r a exit caused =
     let x = err_from_is_err_and r exit in
     subst (λ s. CausedByInput form input out (answer_of s)) (sym (x.1 ∙ ap Err x.2)) caused
 
-pub run_of : (form : Form) (input out : StreamChange) (w : Work) (a : Answer) → IsWorkload input w → Ran w form out a → CausedByInput form input out a
+pub run_of : (form : Form) (input out : StreamChange) (w : Work) (a : Answer) → IsWorkload workloads input w → Ran w form out a → CausedByInput form input out a
 run_of form input out w Done is r = (w, is, r)
 run_of form input out w Blocked is r = (w, is, r)
 run_of form input out w WriteFault is r = (w, is, r)

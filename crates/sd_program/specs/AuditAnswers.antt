@@ -7,6 +7,7 @@ use Rattle.sd_audit.specs.Audits.{IsJournal}
 use Rattle.sd_answers.specs.declared.answers.Answer.{Answer}
 use Rattle.sd_answers.specs.Certificates.{CausedByCertificate, IsJudged, Writes}
 use Rattle.sd_answers.specs.Inputs.{IsCertificate}
+use Rattle.sd_answers.specs.Languages.{workloads}
 use Rattle.sd_answers.specs.StreamChanges.{StreamChange}
 
 -- the line that says that a journal is that of a complete run of so many entries
@@ -18,7 +19,7 @@ pub record IsLegal (input : StreamChange) (n : ℕ) : Type 0 where
   pub work : Work
   pub text : List ℕ
   pub final : State
-  pub certificate : IsCertificate input work text
+  pub certificate : IsCertificate workloads input work text
   pub journal : IsJournal work text final n
 
 -- and the line that says so was written
@@ -27,8 +28,8 @@ CertifiesInput input out = Writes (IsLegal input) legal_text out
 
 -- how many entries the run has whose journal the input holds, or why it holds none
 abbrev pub IsLegalReading : StreamChange → Result ℕ Answer → Type 0
-IsLegalReading input entries = IsJudged (IsLegal input) input entries
+IsLegalReading input entries = IsJudged workloads (IsLegal input) input entries
 
 -- the answer to the argument `audit`
 abbrev pub CausedByAudit : StreamChange → StreamChange → Answer → Type 0
-CausedByAudit input out a = CausedByCertificate (IsLegal input) legal_text input out a
+CausedByAudit input out a = CausedByCertificate workloads (IsLegal input) legal_text input out a

@@ -11,6 +11,7 @@ use Rattle.sd_answers.specs.Answers.{status_of, line_of}
 use Rattle.sd_answers.specs.Certificates.{CompletesCertificate, RefusesCertificate, RefusesFaulty, RefusesJournal}
 use Rattle.sd_types.specs.Limits.{most_workload_bytes}
 use Rattle.sd_answers.specs.Inputs.{HasAtMost, HasTooMany, IsWorkload, IsNoWorkload}
+use Rattle.sd_answers.specs.Languages.{Language, workloads}
 use Rattle.sd_answers.specs.StreamChanges.{StreamChange, HasFault, HasNoFault, IsUntouched, AppendsPart, TellsLine}
 use Rattle.sd_gen.specs.Generated.{generated}
 use Rattle.sd_program.specs.declared.forms.Form.{Form}
@@ -23,13 +24,13 @@ use Rattle.sd_program.specs.AuditAnswers.{CausedByAudit, CertifiesInput}
 
 -- the input is an accepted workload, whose run ended so
 abbrev pub RanInput : Form → StreamChange → StreamChange → Answer → Type 0
-RanInput form input out a = (w : Work) × IsWorkload input w × Ran w form out a
+RanInput form input out a = (w : Work) × IsWorkload workloads input w × Ran w form out a
 
 -- the answer to the arguments of a form
 abbrev pub CausedByInput : Form → StreamChange → StreamChange → Answer → Type 0
 CausedByInput form input out Done = RanInput form input out Done
 CausedByInput form input out TooLarge = HasTooMany most_workload_bytes input × IsUntouched out
-CausedByInput form input out (Refused line cause) = IsNoWorkload input line cause × IsUntouched out
+CausedByInput form input out (Refused line cause) = IsNoWorkload workloads input line cause × IsUntouched out
 CausedByInput form input out ReadFault = HasFault input × IsUntouched out
 CausedByInput form input out WriteFault = RanInput form input out WriteFault
 CausedByInput form input out OutOfMemory = HasAtMost most_workload_bytes input × HasNoFault out × (IsUntouched out ⊎ RanInput form input out OutOfMemory)
@@ -39,15 +40,15 @@ CausedByInput form input out _ = ⊥
 
 -- the tables of the input's workload were written
 abbrev pub PrintsTables : StreamChange → StreamChange → Type 0
-PrintsTables input out = (w : Work) × IsWorkload input w × Appends out.before out.after (tables_text w) × HasNoFault out
+PrintsTables input out = (w : Work) × IsWorkload workloads input w × Appends out.before out.after (tables_text w) × HasNoFault out
 
 -- the answer to the argument `tables`
 abbrev pub CausedByTables : StreamChange → StreamChange → Answer → Type 0
 CausedByTables input out Done = PrintsTables input out
 CausedByTables input out TooLarge = HasTooMany most_workload_bytes input × IsUntouched out
-CausedByTables input out (Refused line cause) = IsNoWorkload input line cause × IsUntouched out
+CausedByTables input out (Refused line cause) = IsNoWorkload workloads input line cause × IsUntouched out
 CausedByTables input out ReadFault = HasFault input × IsUntouched out
-CausedByTables input out WriteFault = (w : Work) × IsWorkload input w × HasFault out × AppendsPart out.before out.after (tables_text w)
+CausedByTables input out WriteFault = (w : Work) × IsWorkload workloads input w × HasFault out × AppendsPart out.before out.after (tables_text w)
 CausedByTables input out OutOfMemory = HasAtMost most_workload_bytes input × IsUntouched out
 CausedByTables input out _ = ⊥
 
@@ -94,11 +95,11 @@ CompletesTables input out status =
     (HasFault input → ⊥) → (HasFault out → ⊥)
     → (bytes : List ℕ) (w : Work) → input.before ≡ Some bytes → length bytes ≤ most_workload_bytes → Accepted bytes w → (status ≡ 0) ⊎ (status ≡ 5)
 
--- an input that is too large is refused, and so is one that is no accepted workload, unless memory runs out
-abbrev pub Refuses : StreamChange → ℕ → Type 0
-Refuses input status =
+-- an input that is too large is refused, and so is one that spells no workload, unless memory runs out
+abbrev pub Refuses : Language → StreamChange → ℕ → Type 0
+Refuses L input status =
     (HasFault input → ⊥) → (bytes : List ℕ) → input.before ≡ Some bytes
-    → (most_workload_bytes < length bytes → status ≡ 2) × (((w : Work) → Accepted bytes w → ⊥) → (status ≡ 2) ⊎ (status ≡ 5))
+    → (most_workload_bytes < length bytes → status ≡ 2) × (((w : Work) → L.Spells bytes w → ⊥) → (status ≡ 2) ⊎ (status ≡ 5))
 
 -- All that the program promises of a call, from what it did to its streams: there is an answer with its cause, its
 -- status and its line; where a workload is run, status 0 says that the run was printed and that no threads block each
@@ -112,13 +113,13 @@ pub record KeepsPromises (arguments : List (List ℕ)) (input out err : StreamCh
   pub tables : command_of arguments ≡ Some Tables → status ≡ 0 → PrintsTables input out
   pub generates : (n : ℕ) → command_of arguments ≡ Some (Generate n) → status ≡ 0 → IsUntouched input × CausedByNumber n out Done
   pub audits : command_of arguments ≡ Some Audit → status ≡ 0 → CertifiesInput input out
-  pub faults : command_of arguments ≡ Some Audit → status ≡ 7 → RefusesJournal input out
+  pub faults : command_of arguments ≡ Some Audit → status ≡ 7 → RefusesJournal workloads input out
   pub completes : (form : Form) → command_of arguments ≡ Some (Run form) → Completes form input out status
   pub completes_tables : command_of arguments ≡ Some Tables → CompletesTables input out status
   pub completes_generated : (n : ℕ) → command_of arguments ≡ Some (Generate n) → (HasFault out → ⊥) → (status ≡ 0) ⊎ (status ≡ 5)
-  pub completes_audit : command_of arguments ≡ Some Audit → CompletesCertificate input out status
-  pub refuses : (form : Form) → command_of arguments ≡ Some (Run form) → Refuses input status
-  pub refuses_tables : command_of arguments ≡ Some Tables → Refuses input status
-  pub refuses_audit : command_of arguments ≡ Some Audit → RefusesCertificate input status
-  pub refuses_faulty : command_of arguments ≡ Some Audit → RefusesFaulty input status
+  pub completes_audit : command_of arguments ≡ Some Audit → CompletesCertificate workloads input out status
+  pub refuses : (form : Form) → command_of arguments ≡ Some (Run form) → Refuses workloads input status
+  pub refuses_tables : command_of arguments ≡ Some Tables → Refuses workloads input status
+  pub refuses_audit : command_of arguments ≡ Some Audit → RefusesCertificate workloads input status
+  pub refuses_faulty : command_of arguments ≡ Some Audit → RefusesFaulty workloads input status
   pub usage : (status ≡ 1) ↔ (command_of arguments ≡ None)

@@ -17,13 +17,13 @@ const VIEW_USAGE: &str =
     "usage: dispview timeline [FROM TO] | trace | list [FROM TO] | list NAME | report [--csv] | --help\n";
 
 const VIEW_HELP: &str =
-    "dispview reads a workload, the line journal, and a journal, and judges it:\n(cat W; echo journal; dispsim run < W) | dispview FORM\ntimeline          the run as a picture (SVG)\ntimeline FROM TO  the ticks from FROM to TO of it\ntrace             the run for chrome://tracing and Perfetto (JSON)\nlist              each entry with a sentence on it\nlist FROM TO      those of the ticks from FROM to TO\nlist NAME         those that name the thread NAME\nreport            statistics of threads, tasks, locks and processors\nreport --csv      the same for a spreadsheet (CSV)\n--help            these lines\n";
+    "dispview reads a workload or a task set, the line journal, and a journal, and judges it:\n(cat W; echo journal; dispsim run < W) | dispview FORM\ntimeline          the run as a picture (SVG)\ntimeline FROM TO  the ticks from FROM to TO of it\ntrace             the run for chrome://tracing and Perfetto (JSON)\nlist              each entry with a sentence on it\nlist FROM TO      those of the ticks from FROM to TO\nlist NAME         those that name the thread NAME\nreport            statistics of threads, tasks, locks and processors\nreport --csv      the same for a spreadsheet (CSV)\n--help            these lines\n";
 
 const FIND_USAGE: &str =
     "usage: dispfind (blocked | stuck | states | ends NAME | waits NAME) [--most N] [--quiet] | --help\n";
 
 const FIND_HELP: &str =
-    "dispfind reads a workload, and searches every order in which its processors can act:\ndispfind FORM [--most N] [--quiet] < W\nblocked    a run at whose end threads block each other in a circle\nstuck      a run at whose end a thread that has operations left has not ended\nstates     how many states there are, and in how many of them runs end\nends NAME  at which tick thread NAME ends at the earliest and at the latest\nwaits NAME how many ticks thread NAME waits at most from a wakeup to its running\n--most N   ends with N states; 1000000 where it is not given\n--quiet    no lines of progress on the error output of a terminal\n--help     these lines\nExit status: 9 found, its journal behind the line states; 10 never; 11 not all searched\n(cat W; echo journal; dispfind FORM < W | sed '1,/^states /d') | dispsim audit\nOf ends two journals stand behind the lines earliest and latest\n";
+    "dispfind reads a workload or a task set, and searches every order in which its processors can act:\ndispfind FORM [--most N] [--quiet] < W\nblocked    a run at whose end threads block each other in a circle\nstuck      a run at whose end a thread that has operations left has not ended\nstates     how many states there are, and in how many of them runs end\nends NAME  at which tick thread NAME ends at the earliest and at the latest\nwaits NAME how many ticks thread NAME waits at most from a wakeup to its running\n--most N   ends with N states; 1000000 where it is not given\n--quiet    no lines of progress on the error output of a terminal\n--help     these lines\nExit status: 9 found, its journal behind the line states; 10 never; 11 not all searched\n(cat W; echo journal; dispfind FORM < W | sed '1,/^states /d') | dispsim audit\nOf ends two journals stand behind the lines earliest and latest\n";
 
 const FIND_ENDS: &str =
     "found\nthread a ends in every run\nstates 8\nearliest 3\n0 c0 dispatch a 29\n1 c0 tick a\n2 c0 tick a\n3 c0 tick a\n4 c0 done a\n5 c0 idle\n6 c0 idle\naccounts\nthread a ticks 3 dispatches 1 preempts 0 wakes 0 ended\ncpu 0 ticks 5 idle 2\nlatest 3\n0 c0 dispatch a 29\n1 c0 tick a\n2 c0 tick a\n3 c0 tick a\n4 c0 done a\n5 c0 idle\n6 c0 idle\naccounts\nthread a ticks 3 dispatches 1 preempts 0 wakes 0 ended\ncpu 0 ticks 5 idle 2\n";
@@ -34,6 +34,21 @@ const WOKEN: &str =
 
 const FIND_WAITS: &str =
     "found\nlongest 2\nstates 11\n0 c0 dispatch a 20\n1 c0 sleep a k\n2 c0 dispatch b 20\n3 c0 wake b k a to c0\n4 c0 tick b\n5 c0 tick b\n6 c0 done b\n7 c0 dispatch a 20\n8 c0 done a\n9 c0 idle\naccounts\nthread a ticks 0 dispatches 2 preempts 0 wakes 1 ended\nthread b ticks 2 dispatches 1 preempts 0 wakes 0 ended\ncpu 0 ticks 3 idle 1\n";
+
+/// A task set that expands to a workload with the journal of the smallest one: the thread runs a tick three times.
+const SMALLEST_SET: &str = "limit 5\nthread a ts 29 0 0\nscript a\nrepeat 3\nrun 1\nend\nend\n";
+
+/// A set whose second round takes a mutex again: the fault is told at the operation.
+const FAULTY_SET: &str =
+    "limit 5\nmutex m\nthread a ts 29 0 0\nscript a\nrepeat 2\nenter m\nend\nend\njournal\n";
+
+/// The set, and the journal of its expansion.
+const JUDGED_SET: &str =
+    "limit 5\nthread a ts 29 0 0\nscript a\nrepeat 3\nrun 1\nend\nend\njournal\n0 c0 dispatch a 29\n1 c0 tick a\n2 c0 tick a\n3 c0 tick a\n4 c0 done a\n5 c0 idle\n6 c0 idle\naccounts\nthread a ticks 3 dispatches 1 preempts 0 wakes 0 ended\ncpu 0 ticks 5 idle 2\n";
+
+/// The set, and a journal whose first entry the expansion does not make.
+const MISJUDGED_SET: &str =
+    "limit 5\nthread a ts 29 0 0\nscript a\nrepeat 3\nrun 1\nend\nend\njournal\n0 c0 idle\n";
 
 #[derive(Clone, Copy)]
 enum Program {
@@ -124,7 +139,7 @@ fn is_answered_without_flush<R: Threads + Wait + Sync + AllocGlobal>(
     Ok(is_answered_over(rt, row, &mut failing_to_flush(streams)))
 }
 
-const CALLS: [Row; 15] = [
+const CALLS: [Row; 20] = [
     (
         Program::Dispsim,
         Some("run"),
@@ -168,6 +183,30 @@ const CALLS: [Row; 15] = [
         "refused: no journal\n",
     ),
     (Program::Dispview, None, "", 1, "", VIEW_USAGE),
+    (
+        Program::Dispview,
+        Some("list b"),
+        JUDGED_SET,
+        0,
+        "tick    entry                         what happens\n",
+        "list: no thread has this name\n",
+    ),
+    (
+        Program::Dispview,
+        Some("trace"),
+        MISJUDGED_SET,
+        7,
+        "",
+        "journal: entry 0: illegal\n",
+    ),
+    (
+        Program::Dispview,
+        Some("report"),
+        FAULTY_SET,
+        2,
+        "",
+        "refused: line 6: script: already held\n",
+    ),
     (Program::Dispfind, Some("--help"), "", 0, FIND_HELP, ""),
     (
         Program::Dispfind,
@@ -176,6 +215,22 @@ const CALLS: [Row; 15] = [
         9,
         FIND_ENDS,
         "",
+    ),
+    (
+        Program::Dispfind,
+        Some("ends a"),
+        SMALLEST_SET,
+        9,
+        FIND_ENDS,
+        "",
+    ),
+    (
+        Program::Dispfind,
+        Some("states"),
+        FAULTY_SET,
+        2,
+        "",
+        "refused: line 6: script: already held\n",
     ),
     (Program::Dispfind, Some("waits a"), WOKEN, 9, FIND_WAITS, ""),
     (

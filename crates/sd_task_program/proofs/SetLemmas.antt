@@ -19,12 +19,13 @@ use Rattle.sd_answers.specs.declared.writing.Unwritten.{Unwritten}
 use Rattle.sd_answers.specs.declared.writing.Unwritten.TheVariants as unwritten
 use Rattle.sd_answers.specs.Answers.{answer_of, read_answer, unwritten_answer}
 use Rattle.sd_answers.specs.Handing.{LeavesHeldBy}
-use Rattle.sd_answers.specs.Inputs.{HasRead, IsRefused}
+use Rattle.sd_answers.specs.Inputs.{HasRead, IsReadingText}
 use Rattle.sd_answers.specs.StreamChanges.{IsUntouched, Puts, StreamChange}
 use Rattle.sd_answers.proofs.EndLemmas.{Closes, closed, closes-behind}
 use Rattle.sd_answers.proofs.InputLemmas.{at_most_of}
+use Rattle.sd_set_inputs.specs.Readings.{fault_answer}
 use Rattle.sd_task_program.specs.Printed.{mapped_line, printed}
-use Rattle.sd_task_program.specs.Promises.{CausedBySet, IsExpanded, IsSet, IsUnread, fault_answer}
+use Rattle.sd_task_program.specs.Promises.{CausedBySet, IsExpanded, IsSet, IsUnread}
 
 -- ---- what is printed are whole lines
 
@@ -42,7 +43,7 @@ printed-ends false lines = EndsLine-flat_map (λ (w : Written). w.text ++ 10 ∷
 
 -- ---- why there is no expansion
 
-pub unread_set : (input : StreamChange) (why : ReadAllFault) → IsRefused input (read_answer why) → IsUnread input (read_answer why)
+pub unread_set : (input : StreamChange) (why : ReadAllFault) → IsReadingText input (Err (read_answer why)) → IsUnread input (read_answer why)
 unread_set input read.ReadFault h = h
 unread_set input read.TooLarge h = h
 unread_set input read.Memory h = h

@@ -8,8 +8,6 @@ use Rattle.sd_declare.specs.declared.causes.WorkCause.{WorkCause}
 use Rattle.sd_tasks.specs.Written.{Written}
 use Rattle.sd_tasks.specs.WrittenKept.{lines_kept}
 use Rattle.sd_releases.specs.declared.expanding.Expansion.{Expansion}
-use Rattle.sd_releases.specs.declared.expanding.SetFault.{SetFault}
-use Rattle.sd_releases.specs.declared.expanding.SetFault.TheVariants as fault
 use Rattle.sd_releases.specs.Verdicts.{Expands, RefusesSet, set_verdict}
 use Rattle.sd_answers.specs.Answers.{line_with, status_of}
 use Rattle.sd_answers.specs.Inputs.{HasAtMost, HasRead, HasTooMany}
@@ -40,11 +38,6 @@ IsUnread input (Refused line cause) = IsNoSet input line cause
 IsUnread input ReadFault = HasFault input
 IsUnread input OutOfMemory = HasAtMost most_workload_bytes input
 IsUnread input _ = ⊥
-
--- the answer where a set is refused
-abbrev pub fault_answer : SetFault → Answer
-fault_answer (fault.At line cause) = Refused line cause
-fault_answer fault.Memory = OutOfMemory
 
 -- the expansion of the input's set, or why there is none
 abbrev pub IsExpanded : StreamChange → Result Expansion Answer → Type 0

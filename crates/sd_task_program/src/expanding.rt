@@ -7,24 +7,15 @@ ghost use Rattle.sd_answers.specs.Handing.{LeavesHeldBy};
 ghost use Rattle.sd_answers.specs.StreamChanges.{LeavesHeld, Puts, change_of};
 ghost use Rattle.sd_answers.specs.declared.writing.Unwritten.TheVariants.{Memory};
 ghost use Rattle.sd_task_program.specs.Printed.{printed};
-ghost use Rattle.sd_task_program.specs.Promises.{CausedBySet, IsExpanded, fault_answer};
+ghost use Rattle.sd_task_program.specs.Promises.{CausedBySet, IsExpanded};
 
 use crate::printing::printed;
 use sd_answers::{Answer, Unwritten, print_text};
-use sd_releases::{Expansion, SetFault, expand};
+use sd_releases::{Expansion, expand};
+use sd_set_inputs::fault_answer;
 use sd_tasks::WrittenLine;
 use sd_text::{Sink, Source, read_all};
 use std::alloc::Global;
-
-/// The answer where a set is refused.
-fn fault_answer(fault: SetFault) -> Answer
-    ensures { result ≡ fault_answer fault }
-{
-    match fault {
-        SetFault::At { line, cause } => Answer::Refused { line, cause },
-        SetFault::Memory => Answer::OutOfMemory,
-    }
-}
 
 /// The expansion of the set that the input spells, or why there is none.
 fn read_expansion<S: Source>(alloc: Global, input: &mut S) -> Result<Expansion, Answer>

@@ -19,6 +19,8 @@ use Rattle.sd_answers.specs.Certificates.{HoldsJournal, CausedByCertificate, Com
 use Rattle.sd_answers.specs.Starts.{WritesHelp}
 use Rattle.sd_answers.specs.StreamChanges.{StreamChange, IsUntouched, Puts, TellsLine}
 use Rattle.sd_answers.proofs.CertificateLemmas.{completes_of, faulty_of, not_usage, refuses_certificate_of, refuses_faulty_of}
+use Rattle.sd_set_inputs.specs.Sets.{sets}
+use Rattle.sd_set_inputs.proofs.SetLemmas.{sets_sound}
 use Rattle.sd_viewer.specs.declared.drawings.Drawing.{Drawing}
 use Rattle.sd_viewer.specs.declared.forms.Request.{Request}
 use Rattle.sd_viewer.specs.declared.forms.Request.TheVariants.{Help, Draw}
@@ -68,7 +70,7 @@ helped-ends (Err a) e = tt
 
 module _ (d : Drawing) (input out : StreamChange) (line : List ℕ) where
   -- the cause without the line
-  cause_of : (a : Answer) → CausedByView d input out a line → CausedByCertificate (IsDrawnInput d input) (λ text. text) input out a
+  cause_of : (a : Answer) → CausedByView d input out a line → CausedByCertificate sets (IsDrawnInput d input) (λ text. text) input out a
   cause_of Done c = (c.0, c.1, c.2, c.3)
   cause_of a c = c.0
 
@@ -77,7 +79,7 @@ module _ (d : Drawing) (input out : StreamChange) (line : List ℕ) where
   draws_of a c s = absurd (omega arith)
 
   -- what is drawn is the run whose journal the input holds
-  held : (text : List ℕ) → IsDrawnInput d input text → HoldsJournal input
+  held : (text : List ℕ) → IsDrawnInput d input text → HoldsJournal sets input
   held text is =
       let j = is.drawn.journal_of in
       let es = is.drawn.entries in
@@ -92,14 +94,14 @@ module _ (d : Drawing) (input out : StreamChange) (line : List ℕ) where
         );
       }
 
-  completes_view : (a : Answer) → CausedByView d input out a line → CompletesCertificate input out (status_of a)
-  completes_view a c = completes_of (IsDrawnInput d input) (λ text. text) input out a (cause_of a c)
+  completes_view : (a : Answer) → CausedByView d input out a line → CompletesCertificate sets input out (status_of a)
+  completes_view a c = completes_of sets sets_sound (IsDrawnInput d input) (λ text. text) input out a (cause_of a c)
 
-  refuses_view : (a : Answer) → CausedByView d input out a line → RefusesCertificate input (status_of a)
-  refuses_view a c = refuses_certificate_of (IsDrawnInput d input) (λ text. text) input out held a (cause_of a c)
+  refuses_view : (a : Answer) → CausedByView d input out a line → RefusesCertificate sets input (status_of a)
+  refuses_view a c = refuses_certificate_of sets sets_sound (IsDrawnInput d input) (λ text. text) input out held a (cause_of a c)
 
-  refuses_faulty_view : (a : Answer) → CausedByView d input out a line → RefusesFaulty input (status_of a)
-  refuses_faulty_view a c = refuses_faulty_of (IsDrawnInput d input) (λ text. text) input out held a (cause_of a c)
+  refuses_faulty_view : (a : Answer) → CausedByView d input out a line → RefusesFaulty sets input (status_of a)
+  refuses_faulty_view a c = refuses_faulty_of sets sets_sound (IsDrawnInput d input) (λ text. text) input out held a (cause_of a c)
 
 -- ---- the forms
 
@@ -115,16 +117,16 @@ no_help input out status n h is zero four = elim h.1 [
   | inr (s, a) ↦ absurd (four (sym is ∙ s))
 ]
 
-faults_of : (k : Option Request) (input out : StreamChange) (a : Answer) (line : List ℕ) → CausedByViewRequest k input out a line → status_of a ≡ 7 → RefusesJournal input out
+faults_of : (k : Option Request) (input out : StreamChange) (a : Answer) (line : List ℕ) → CausedByViewRequest k input out a line → status_of a ≡ 7 → RefusesJournal sets input out
 faults_of None input out a line c s = absurd (omega (arith, ap status_of c.0))
 faults_of (Some Help) input out a line c s = no_help input out (status_of a) 7 (helps_of input out a c.0 c.2) s (λ e. omega arith) (λ e. omega arith)
-faults_of (Some (Draw d)) input out a line c s = faulty_of (IsDrawnInput d input) (λ text. text) input out a (cause_of d input out line a c) s
+faults_of (Some (Draw d)) input out a line c s = faulty_of sets sets_sound (IsDrawnInput d input) (λ text. text) input out a (cause_of d input out line a c) s
 
 usage_of : (k : Option Request) (input out : StreamChange) (a : Answer) (line : List ℕ) → CausedByViewRequest k input out a line → (status_of a ≡ 1) ↔ (k ≡ None)
 usage_of None input out a line c = (λ one. refl, λ none. ap status_of c.0)
 usage_of (Some Help) input out a line c =
     (λ one. no_help input out (status_of a) 1 (helps_of input out a c.0 c.2) one (λ e. omega arith) (λ e. omega arith), λ none. cc)
-usage_of (Some (Draw d)) input out a line c = (λ one. absurd (not_usage (IsDrawnInput d input) (λ text. text) input out a (cause_of d input out line a c) one), λ none. cc)
+usage_of (Some (Draw d)) input out a line c = (λ one. absurd (not_usage sets sets_sound (IsDrawnInput d input) (λ text. text) input out a (cause_of d input out line a c) one), λ none. cc)
 
 pub promises_of : (arguments : List (List ℕ)) (input out err : StreamChange) (a : Answer) (line : List ℕ) (status : ℕ) → status ≡ status_of a
     → CausedByViewRequest (request_of arguments) input out a line → TellsLine err line → ShowsAsPromised arguments input out err status
@@ -135,9 +137,9 @@ promises_of arguments input out err a line status is caused told =
       answered = record { answer = a; line = line; exit = is; caused = caused; told = told };
       draws = λ d known zero. (line, draws_of d input out line a (asked d known) (sym is ∙ zero), told);
       faults = λ seven. faults_of (request_of arguments) input out a line caused (sym is ∙ seven);
-      completes = λ d known. subst (CompletesCertificate input out) (sym is) (completes_view d input out line a (asked d known));
-      refuses = λ d known. subst (RefusesCertificate input) (sym is) (refuses_view d input out line a (asked d known));
-      refuses_faulty = λ d known. subst (RefusesFaulty input) (sym is) (refuses_faulty_view d input out line a (asked d known));
+      completes = λ d known. subst (CompletesCertificate sets input out) (sym is) (completes_view d input out line a (asked d known));
+      refuses = λ d known. subst (RefusesCertificate sets input) (sym is) (refuses_view d input out line a (asked d known));
+      refuses_faulty = λ d known. subst (RefusesFaulty sets input) (sym is) (refuses_faulty_view d input out line a (asked d known));
       helps = λ known. subst (WritesHelp help_text input out) (sym is) (helps_of input out a (helped known).0 (helped known).2);
       usage = subst (λ s. (s ≡ 1) ↔ (request_of arguments ≡ None)) (sym is) (usage_of (request_of arguments) input out a line caused);
     }
@@ -152,4 +154,4 @@ leaves_exit r a before after exit left =
 
 -- nothing was written where nothing was drawn
 pub leaves_undrawn : (d : Drawing) (input : StreamChange) (a : Answer) (held : List ℕ) → IsDrawing d input (Err a) → LeavesHeldBy a held held
-leaves_undrawn d input a held why = leaves_unjudged (λ (x : Drawn). (of : IsDrawnInput d input x.text.items) × (x.line.items ≡ left_line d of.work)) input a held why
+leaves_undrawn d input a held why = leaves_unjudged sets (λ (x : Drawn). (of : IsDrawnInput d input x.text.items) × (x.line.items ≡ left_line d of.work)) input a held why

@@ -11,6 +11,7 @@ use Rattle.sd_answers.specs.Answers.{line_with, status_of}
 use Rattle.sd_answers.specs.Certificates.{CausedByCertificate, IsJudged}
 use Rattle.sd_answers.specs.Inputs.{IsCertificate}
 use Rattle.sd_answers.specs.StreamChanges.{StreamChange, AppendsPart, HasFault, HasNoFault, IsUntouched, TellsLine}
+use Rattle.sd_set_inputs.specs.Sets.{sets}
 use Rattle.sd_viewer.specs.declared.drawings.Drawing.{Drawing}
 use Rattle.sd_viewer.specs.declared.forms.Request.{Request}
 use Rattle.sd_viewer.specs.declared.forms.Request.TheVariants.{Help, Draw}
@@ -18,17 +19,17 @@ use Rattle.sd_viewer.specs.Drawings.{IsDrawn, left_line}
 use Rattle.sd_viewer.specs.Forms.{request_of}
 use Rattle.sd_viewer.specs.declared.viewing.Drawn.{Drawn}
 
--- the input is a workload and the journal of a complete run of it, and the text is the drawing of this run
+-- the input is a workload or a task set and the journal of a complete run of the workload, and the text is the drawing of this run
 pub record IsDrawnInput (drawing : Drawing) (input : StreamChange) (text : List ℕ) : Type 0 where
   pub work : Work
   pub journal : List ℕ
-  pub certificate : IsCertificate input work journal
+  pub certificate : IsCertificate sets input work journal
   pub drawn : IsDrawn drawing work journal text
 
 -- the drawing of the run whose journal the input holds, and what is said of it, or why there is none
 abbrev pub IsDrawing : Drawing → StreamChange → Result Drawn Answer → Type 0
 IsDrawing drawing input drawn =
-    IsJudged (λ (d : Drawn). (of : IsDrawnInput drawing input d.text.items) × (d.line.items ≡ left_line drawing of.work)) input drawn
+    IsJudged sets (λ (d : Drawn). (of : IsDrawnInput drawing input d.text.items) × (d.line.items ≡ left_line drawing of.work)) input drawn
 
 -- ---- the lines on the error output
 
@@ -40,7 +41,7 @@ answer_line a = line_with (codes "usage: dispview timeline [FROM TO] | trace | l
 
 abbrev pub help_text : List ℕ
 help_text =
-    codes "dispview reads a workload, the line journal, and a journal, and judges it:\n" ++ (codes "(cat W; echo journal; dispsim run < W) | dispview FORM\n"
+    codes "dispview reads a workload or a task set, the line journal, and a journal, and judges it:\n" ++ (codes "(cat W; echo journal; dispsim run < W) | dispview FORM\n"
     ++ (codes "timeline          the run as a picture (SVG)\n" ++ (codes "timeline FROM TO  the ticks from FROM to TO of it\n"
     ++ (codes "trace             the run for chrome://tracing and Perfetto (JSON)\n" ++ (codes "list              each entry with a sentence on it\n"
     ++ (codes "list FROM TO      those of the ticks from FROM to TO\n" ++ (codes "list NAME         those that name the thread NAME\n"
@@ -58,7 +59,7 @@ Draws drawing input out line =
 -- where a drawing is asked for
 abbrev pub CausedByView : Drawing → StreamChange → StreamChange → Answer → List ℕ → Type 0
 CausedByView drawing input out Done line = Draws drawing input out line
-CausedByView drawing input out a line = CausedByCertificate (IsDrawnInput drawing input) (λ text. text) input out a × (line ≡ answer_line a)
+CausedByView drawing input out a line = CausedByCertificate sets (IsDrawnInput drawing input) (λ text. text) input out a × (line ≡ answer_line a)
 
 -- where the forms are asked for: they were written whole, or a write failed
 abbrev pub CausedByViewHelp : StreamChange → Answer → Type 0

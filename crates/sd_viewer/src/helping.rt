@@ -9,7 +9,8 @@ use sd_answers::{Answer, print_text};
 use sd_text::Sink;
 use std::alloc::Global;
 
-const HELP: &[u8] = b"dispview reads a workload, the line journal, and a journal, and judges it:
+const HELP: &[u8] =
+    b"dispview reads a workload or a task set, the line journal, and a journal, and judges it:
 (cat W; echo journal; dispsim run < W) | dispview FORM
 timeline          the run as a picture (SVG)
 timeline FROM TO  the ticks from FROM to TO of it

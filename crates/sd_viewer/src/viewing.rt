@@ -1,4 +1,4 @@
-//! The drawing of an input that holds a workload and a journal.
+//! The drawing of an input that holds a workload or a task set, and a journal.
 
 ghost use Rattle.sd_answers.specs.Handing.{LeavesHeldBy};
 ghost use Rattle.sd_answers.specs.StreamChanges.{change_of};
@@ -6,7 +6,8 @@ ghost use Rattle.sd_viewer.specs.Viewing.{CausedByView, IsDrawing, viewed_answer
 
 use crate::drawings::{Drawing, draw};
 use crate::lines::left_line;
-use sd_answers::{Answer, print_text, read_certificate};
+use sd_answers::{Answer, print_text};
+use sd_set_inputs::read_certificate;
 use sd_text::{Sink, Source};
 use std::alloc::Global;
 
@@ -27,7 +28,7 @@ fn draw_input<S: Source>(alloc: Global, drawing: &Drawing, input: &mut S) -> Res
     Ok(Drawn { text, line })
 }
 
-/// Reads a workload and a journal, and writes the drawing of the run, all of which is handed on, where the journal is that of a
+/// Reads a workload or a task set, and a journal, and writes the drawing of the run, all of which is handed on, where the journal is that of a
 /// complete one. What is said of it is returned.
 pub(crate) fn view_input<S: Source, K: Sink>(
     alloc: Global,

@@ -3,6 +3,7 @@ use Rattle.sd_text.specs.Lines.{EndsLine}
 use Rattle.sd_answers.specs.declared.answers.Answer.TheVariants.{OutOfMemory}
 use Rattle.sd_answers.specs.Answers.{unwritten_answer}
 use Rattle.sd_answers.specs.StreamChanges.{change_of, Puts}
+use Rattle.sd_set_inputs.specs.Sets.{sets}
 use Rattle.sd_find.proofs.CauseLemmas.{seek_exit, unread, unsearched, unwritten_told}
 use Rattle.sd_find.proofs.TextLemmas.{told-ends}
 use Rattle.sd_answers.proofs.HandingLemmas.{leaves_refused, leaves_unwritten}
@@ -84,7 +85,7 @@ returns-in_err-work-clause-leaves g c =
     let j = c.read_input.new.input in
     let held = g.K.Sink.held_back c.args.out.now in
     let answer = c.in_err-work.field-0.0 in
-    leaves_exit c.from_residual.result answer held held c.from_residual.ensures.1 (leaves_refused (change_of (left i) (left j) (read i) (read j)) answer held c.in_err-work.ensures)
+    leaves_exit c.from_residual.result answer held held c.from_residual.ensures.1 (leaves_refused sets (change_of (left i) (left j) (read i) (read j)) answer held c.in_err-work.ensures)
 
 pub returns-in_err-told-clause-leaves : goal.returns-in_err-told-clause-leaves
 returns-in_err-told-clause-leaves g c =

@@ -1,4 +1,5 @@
 use Rattle.sd_answers.specs.Answers.{unwritten_answer}
+use Rattle.sd_answers.specs.Languages.{workloads}
 use Rattle.sd_answers.specs.StreamChanges.{change_of}
 use Rattle.sd_answers.proofs.HandingLemmas.{leaves_exit, leaves_unjudged, leaves_unwritten}
 use Rattle.sd_program.specs.AuditAnswers.{IsLegal}
@@ -13,7 +14,7 @@ returns-in_err-entries-clause-leaves g c =
     let input = change_of (left i) (left j) (read i) (read j) in
     let held = g.K.Sink.held_back c.args.out.now in
     let answer = c.in_err-entries.field-0.0 in
-    leaves_exit c.from_residual.result answer held held c.from_residual.ensures.1 (leaves_unjudged (IsLegal input) input answer held c.in_err-entries.ensures)
+    leaves_exit c.from_residual.result answer held held c.from_residual.ensures.1 (leaves_unjudged workloads (IsLegal input) input answer held c.in_err-entries.ensures)
 
 pub returns-in_err-print_legal-clause-leaves : goal.returns-in_err-print_legal-clause-leaves
 returns-in_err-print_legal-clause-leaves g c =

@@ -1,5 +1,6 @@
 use Rattle.std.proofs.Common.{subst}
 use Rattle.sd_answers.specs.Answers.{audit_answer}
+use Rattle.sd_answers.specs.Languages.{workloads}
 use Rattle.sd_answers.specs.StreamChanges.{change_of}
 use Rattle.sd_audit.specs.Audits.{IsFault, IsJournal}
 use Rattle.sd_answers.proofs.CertificateLemmas.{unjudged, judged_exit}
@@ -15,8 +16,8 @@ returns-in_err-entries g c =
     let input = change_of (left i) (left j) (faults i) (faults j) in
     let found = c.in_ok-certificate.certificate in
     let fault = c.in_err-entries.field-0.0 in
-    judged_exit (IsLegal input) input c.from_residual-in_err-entries.result (audit_answer fault) c.from_residual-in_err-entries.ensures.1
-    (unjudged (IsLegal input) input found.work found.journal.items fault c.in_ok-certificate.ensures
+    judged_exit workloads (IsLegal input) input c.from_residual-in_err-entries.result (audit_answer fault) c.from_residual-in_err-entries.ensures.1
+    (unjudged workloads (IsLegal input) input found.work found.journal.items fault c.in_ok-certificate.ensures
     (subst (λ text. IsFault found.work text fault) c.deref.ensures.value c.in_err-entries.ensures.fault))
 
 pub returns : goal.returns

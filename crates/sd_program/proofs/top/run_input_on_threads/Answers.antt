@@ -1,5 +1,6 @@
 use Rattle.std.proofs.Common.{refl}
 use Rattle.sd_answers.specs.Answers.{answer_of}
+use Rattle.sd_answers.specs.Languages.{workloads}
 use Rattle.sd_answers.specs.StreamChanges.{change_of}
 use Rattle.sd_program.specs.declared.forms.Form.TheVariants.{Journal}
 use Rattle.sd_program.specs.declared.forms.Mode.TheVariants.{Threads}
@@ -41,4 +42,4 @@ returns-in_err-work-clause-leaves g c =
     let j = c.read_input.new.input in
     let held = g.K.Sink.held_back c.args.out.now in
     let answer = c.in_err-work.field-0.0 in
-    leaves_exit c.from_residual.result answer held held c.from_residual.ensures.1 (leaves_refused (change_of (left i) (left j) (read i) (read j)) answer held c.in_err-work.ensures)
+    leaves_exit c.from_residual.result answer held held c.from_residual.ensures.1 (leaves_refused workloads (change_of (left i) (left j) (read i) (read j)) answer held c.in_err-work.ensures)
