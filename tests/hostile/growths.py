@@ -25,9 +25,15 @@ def growths(setting: Setting, size: int) -> Count:
         host(setting)
     except NoCompiler:
         return Count(notes=["not tried: there is no C compiler"])
-    count = share_out(_of_set, setting, min(size, len(setting.sets())), 1)
-    count.add(share_out(_of_example, setting, min(size, len(setting.examples())), 1))
-    return count
+    return share_out(_of_piece, setting, 2 * size, 1)
+
+
+def _of_piece(setting: Setting, piece: int, _size: int, deadline: float) -> Count:
+    """An example and a task set in turn, as far as there are any."""
+    number, is_set = divmod(piece, 2)
+    if len(setting.sets() if is_set else setting.examples()) <= number:
+        return Count()
+    return (_of_set if is_set else _of_example)(setting, number, deadline)
 
 
 def _in_order(setting: Setting):
@@ -35,7 +41,7 @@ def _in_order(setting: Setting):
     return sorted(examples, key=lambda path: (FIRST.index(path.stem) if path.stem in FIRST else len(FIRST), path.stem))
 
 
-def _of_set(setting: Setting, piece: int, _size: int, deadline: float) -> Count:
+def _of_set(setting: Setting, piece: int, deadline: float) -> Count:
     judge = Judge(setting, "set_growths", piece, deadline)
     text = sorted(setting.sets(), key=lambda path: path.stat().st_size)[piece].read_bytes()
     workload = judge.runner.run(setting.command("disptask"), text).out
@@ -49,7 +55,7 @@ def _of_set(setting: Setting, piece: int, _size: int, deadline: float) -> Count:
     return judge.count
 
 
-def _of_example(setting: Setting, piece: int, _size: int, deadline: float) -> Count:
+def _of_example(setting: Setting, piece: int, deadline: float) -> Count:
     judge = Judge(setting, "growths", piece, deadline)
     workload = _in_order(setting)[piece].read_bytes()
     certificate = workload + b"journal\n" + judge.runner.run(setting.command("run"), workload).out
