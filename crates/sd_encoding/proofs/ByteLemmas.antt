@@ -5,7 +5,7 @@ use Rattle.std.specs.List.{AllByRecursion}
 use Rattle.std.proofs.Math.Seq.{drop-cons}
 use Rattle.std.proofs.lemmas.Bool.{lt-ltb, le-ltb, ltb-true, eqb-true, and_parts, cases_lt}
 use Rattle.std.proofs.lemmas.List.{append-nil, reverse-append, nil_from_length, drop_all}
-use Rattle.sd_encoding.specs.Bytes.{Extends, number_within, number_bytes, bytes_from, bytes_of, with_zeros, continued, joined, numbers_in}
+use Rattle.sd_encoding.specs.Bytes.{number_within, number_bytes, bytes_from, bytes_of, with_zeros, continued, joined, numbers_in}
 
 abbrev none : Option ℕ
 none = None
@@ -91,54 +91,12 @@ numbers_again (n ∷ ns) h = from_again n 0 ns h.0 (omega arith) h.1
 
 -- ---- writing
 
-pub extends_more : (old into new ys : List ℕ) → Extends old into → new ≡ into ++ ys → Extends old new
-extends_more old into new ys h e = (h.0 ++ ys, e ∙ ap (λ (xs : List ℕ). xs ++ ys) h.1 ∙ append_assoc old h.0 ys)
-
-pub extends_further : (old into new : List ℕ) → Extends old into → Extends into new → Extends old new
-extends_further old into new h k = extends_more old into new k.0 h k.1
-
 pub byte_more : (into new whole : List ℕ) (rest z : ℕ) → 32 ≤ rest → new ≡ into ++ (rest % 32 + 224) ∷ [] → into ++ number_bytes rest z ≡ whole → new ++ number_bytes (rest / 32) z ≡ whole
 byte_more into new whole rest z le e so_far =
     ap (λ (xs : List ℕ). xs ++ number_bytes (rest / 32) z) e ∙ append_assoc into ((rest % 32 + 224) ∷ []) (number_bytes (rest / 32) z) ∙ ap (λ (xs : List ℕ). into ++ xs) (sym (first_byte rest z le)) ∙ so_far
 
 pub byte_last : (into new whole : List ℕ) (rest z : ℕ) → rest < 32 → new ≡ into ++ (rest + 32 * z) ∷ [] → into ++ number_bytes rest z ≡ whole → new ≡ whole
 byte_last into new whole rest z lt e so_far = e ∙ ap (λ (xs : List ℕ). into ++ xs) (sym (last_byte rest z lt)) ∙ so_far
-
-pub no_bytes : (into ns : List ℕ) → length ns ≡ 0 → into ≡ into ++ bytes_of ns
-unfolding bytes_of
-no_bytes into ns none_left = let is : ns ≡ [] = nil_from_length ns none_left in rw is (sym (append-nil into))
-
-pub first_number : (into ns others : List ℕ) (n : ℕ) → ns ≡ n ∷ others → into ++ bytes_from n 0 others ≡ into ++ bytes_of ns
-unfolding bytes_of
-first_number into ns others n is = rw is refl
-
-pub all_written : (into new others : List ℕ) (n z i : ℕ) → length others ≤ i → new ≡ into ++ number_bytes n z → new ≡ into ++ bytes_from n z (drop i others)
-unfolding bytes_from
-all_written into new others n z i le e = rw (drop_all i others le) e
-
-cut_at : (ns : List ℕ) (i : ℕ) → i < length ns → drop i ns ≡ get_or ns i 0 ∷ drop (i + 1) ns
-cut_at ns i lt = let next : suc i ≡ i + 1 = omega arith in drop-cons ns i 0 lt ∙ ap (λ (j : ℕ). get_or ns i 0 ∷ drop j ns) next
-
--- one zero more behind a number
-pub zero_more : (into whole ns : List ℕ) (n z i : ℕ) → i < length ns → (get_or ns i 0 == 0 && nat_lt z 6) ≡ true → into ++ bytes_from n z (drop i ns) ≡ whole → into ++ bytes_from n (z + 1) (drop (i + 1) ns) ≡ whole
-unfolding bytes_from
-zero_more into whole ns n z i lt counted so_far =
-    let cut = cut_at ns i lt in
-    let next : z + 1 ≡ suc z = omega arith in
-    let one : bytes_from n z (drop i ns) ≡ bytes_from n (z + 1) (drop (i + 1) ns) = rw (cut, counted, next) refl in
-    ap (λ (xs : List ℕ). into ++ xs) (sym one) ∙ so_far
-
-pub room_left : (m z : ℕ) → (m == 0 && nat_lt z 6) ≡ true → z + 1 ≤ 6
-room_left m z counted = let less = ltb-true z 6 (and_parts (m == 0) (nat_lt z 6) counted).1 in omega arith
-
--- the next number, which is none of the zeros that are counted
-pub number_more : (into new whole ns : List ℕ) (n z i : ℕ) → i < length ns → (get_or ns i 0 == 0 && nat_lt z 6) ≡ false → new ≡ into ++ number_bytes n z → into ++ bytes_from n z (drop i ns) ≡ whole → new ++ bytes_from (get_or ns i 0) 0 (drop (i + 1) ns) ≡ whole
-unfolding bytes_from
-number_more into new whole ns n z i lt other e so_far =
-    let m : ℕ = get_or ns i 0 in
-    let cut = cut_at ns i lt in
-    let one : bytes_from n z (drop i ns) ≡ number_bytes n z ++ bytes_from m 0 (drop (i + 1) ns) = rw (cut, other) refl in
-    ap (λ (xs : List ℕ). xs ++ bytes_from m 0 (drop (i + 1) ns)) e ∙ append_assoc into (number_bytes n z) (bytes_from m 0 (drop (i + 1) ns)) ∙ ap (λ (xs : List ℕ). into ++ xs) (sym one) ∙ so_far
 
 -- ---- reading
 

@@ -21,3 +21,4 @@ pub mod SourceLemmas
 pub mod StepLemmas
 pub mod TellLemmas
 pub mod ToldLemmas
+pub mod WritingLemmas

@@ -4,10 +4,6 @@
 use Rattle.std.specs.Prelude.{◌≡◌, ℕ, zero, suc, ◌+◌, ◌-◌, ◌*◌, ◌/◌, ◌%◌, ◌^◌, ◌&&◌, ◌==◌, List, [], ◌∷◌, ◌++◌, Option, Some, None, nat_lt, if◌then◌else◌}
 use Rattle.sd_encoding.specs.Reading.{◌>>=◌}
 
--- new is old with something after it
-abbrev pub Extends : List ℕ → List ℕ → Type 0
-Extends old new = (more : List ℕ) × (new ≡ old ++ more)
-
 -- a number and so many zeros behind it, in at most one byte more than the first number says
 unfoldable pub number_within : ℕ → ℕ → ℕ → List ℕ
 number_within zero n zeros = (n + 32 * zeros) ∷ []

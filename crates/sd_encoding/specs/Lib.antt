@@ -7,5 +7,5 @@ pub mod Order
 pub mod Ranges
 pub mod Ranks
 pub mod Reading
-pub mod Rewriting
 pub mod Shown
+pub mod Writing

@@ -7,6 +7,7 @@ ghost use Rattle.sd_encoding.specs.Reading.{items_at, pair_at, below_at, lock_id
 use crate::items::write_items;
 use crate::packed::Packed;
 use crate::plain::first;
+use crate::writer::Writer;
 use arrayvec::ArrayVec;
 use sd_types::{CpuId, LockId};
 use std::alloc::AllocError;
@@ -43,7 +44,7 @@ impl Packed for ArrayVec<LockId, 8> {
 
     ghost again = { array_again 8 lock_id FitsLockId lock_id_at lock_id_again };
 
-    fn write(&self, into: &mut Vec<u64>) -> Result<(), AllocError> {
+    fn write(&self, into: &mut Writer) -> Result<(), AllocError> {
         write_items(self.as_slice(), into)
     }
 
@@ -72,7 +73,7 @@ impl Packed for ArrayVec<(LockId, u8), 8> {
 
     ghost again = { array_again 8 inherited FitsInherited (pair_at lock_id_at (below_at (2 ^ 8))) inherited_again };
 
-    fn write(&self, into: &mut Vec<u64>) -> Result<(), AllocError> {
+    fn write(&self, into: &mut Writer) -> Result<(), AllocError> {
         write_items(self.as_slice(), into)
     }
 
@@ -101,7 +102,7 @@ impl Packed for ArrayVec<CpuId, 64> {
 
     ghost again = { array_again 64 cpu_id FitsCpuId cpu_id_at cpu_id_again };
 
-    fn write(&self, into: &mut Vec<u64>) -> Result<(), AllocError> {
+    fn write(&self, into: &mut Writer) -> Result<(), AllocError> {
         write_items(self.as_slice(), into)
     }
 

@@ -2,21 +2,21 @@
 
 ghost use Rattle.std.specs.Prelude.{◌≡◌, ◌<◌, ◌≤◌, ◌+◌, ◌*◌, ◌^◌, ◌++◌, ◌==◌, ◌&&◌, Some, None, nat_lt, if◌then◌else◌, OnOk, IfOk, reverse};
 ghost use Rattle.std.specs.Option.{option_map};
-ghost use Rattle.sd_encoding.specs.Bytes.{Extends, number_bytes, bytes_of, with_zeros, joined, numbers_in};
+ghost use Rattle.sd_encoding.specs.Bytes.{number_bytes, with_zeros, joined, numbers_in};
 
+use crate::buffer::Buffer;
 use std::alloc::{AllocError, Global};
 
 /// The most zeros behind a number that its last byte counts.
-const MOST_ZEROS: u8 = 6;
+pub(crate) const MOST_ZEROS: u8 = 6;
 
 /// What is added to a byte of a number that goes on in the next one.
 const GOES_ON: u8 = 224;
 
 /// Writes the bytes of a number with so many zeros behind it at the end.
-fn write_number(number: u64, zeros: u8, into: &mut Vec<u8>) -> Result<(), AllocError>
+pub(crate) fn write_number(number: u64, zeros: u8, into: &mut Buffer) -> Result<(), AllocError>
     requires { zeros ≤ 6 }
-    ensures written { OnOk result (into.new.items ≡ into.old.items ++ number_bytes number zeros) }
-    ensures kept { Extends into.old.items into.new.items }
+    ensures { OnOk result (into.new ≡ into.old ++ number_bytes number zeros) }
 {
     let mut rest = number;
     while rest >= 32 {
@@ -28,33 +28,11 @@ fn write_number(number: u64, zeros: u8, into: &mut Vec<u8>) -> Result<(), AllocE
 }
 
 /// The number is a zero more behind a number with so many, and its last byte has room for it.
-fn is_counted(number: u64, zeros: u8) -> bool
+#[inline(always)]
+pub(crate) fn is_counted(number: u64, zeros: u8) -> bool
     ensures { result ≡ (number == 0 && nat_lt zeros 6) }
 {
     number == 0 && zeros < MOST_ZEROS
-}
-
-/// Writes the bytes of the numbers at the end.
-pub fn write_numbers(numbers: &[u64], into: &mut Vec<u8>) -> Result<(), AllocError>
-    ensures written { OnOk result (into.new.items ≡ into.old.items ++ bytes_of numbers.now) }
-    ensures kept { Extends into.old.items into.new.items }
-{
-    let Some((first, others)) = numbers.split_first() else {
-        return Ok(());
-    };
-    let mut number = *first;
-    let mut zeros = 0;
-    for next in others {
-        if is_counted(*next, zeros) {
-            zeros += 1;
-            continue;
-        }
-        write_number(number, zeros, into)?;
-        number = *next;
-        zeros = 0;
-    }
-    write_number(number, zeros, into)?;
-    Ok(())
 }
 
 /// The number that has these low five bits and these higher ones, if it is below 2^64.
@@ -73,8 +51,9 @@ fn combined(low: u64, high: u64) -> Option<u64>
 fn put_zeros(zeros: u8, numbers: &mut Vec<u64>) -> Result<(), AllocError>
     ensures { OnOk result (reverse numbers.new.items ≡ with_zeros zeros (reverse numbers.old.items)) }
 {
+    numbers.reserve(zeros as usize)?;
     for _ in 0..zeros {
-        numbers.push(0)?;
+        numbers.push_reserved(0);
     }
     Ok(())
 }

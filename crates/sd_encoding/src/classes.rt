@@ -5,6 +5,7 @@ ghost use Rattle.sd_encoding.specs.Ranges.{is_quantum};
 ghost use Rattle.sd_encoding.specs.Reading.{ts_within, fx_within, sys_within, rt_within};
 
 use crate::packed::Packed;
+use crate::writer::Writer;
 use sd_types::{ClassState, FxState, Quantum, RtState, SysState, TsState};
 use std::alloc::AllocError;
 
@@ -34,7 +35,7 @@ impl Packed for Quantum {
 
     ghost again = { quantum_again };
 
-    fn write(&self, into: &mut Vec<u64>) -> Result<(), AllocError> {
+    fn write(&self, into: &mut Writer) -> Result<(), AllocError> {
         match self {
             Quantum::Def => 0u64.write(into),
             Quantum::Inf => 1u64.write(into),
@@ -96,7 +97,7 @@ impl Packed for TsState {
 
     ghost again = { ts_again };
 
-    fn write(&self, into: &mut Vec<u64>) -> Result<(), AllocError> {
+    fn write(&self, into: &mut Writer) -> Result<(), AllocError> {
         (
             self.cpupri,
             (self.limit, (self.upri, (self.left, self.wait))),
@@ -147,7 +148,7 @@ impl Packed for FxState {
 
     ghost again = { fx_again };
 
-    fn write(&self, into: &mut Vec<u64>) -> Result<(), AllocError> {
+    fn write(&self, into: &mut Writer) -> Result<(), AllocError> {
         (self.limit, (self.pri, (self.quantum, self.left))).write(into)
     }
 
@@ -188,7 +189,7 @@ impl Packed for SysState {
 
     ghost again = { sys_again };
 
-    fn write(&self, into: &mut Vec<u64>) -> Result<(), AllocError> {
+    fn write(&self, into: &mut Writer) -> Result<(), AllocError> {
         self.pri.write(into)
     }
 
@@ -226,7 +227,7 @@ impl Packed for RtState {
 
     ghost again = { rt_again };
 
-    fn write(&self, into: &mut Vec<u64>) -> Result<(), AllocError> {
+    fn write(&self, into: &mut Writer) -> Result<(), AllocError> {
         (self.pri, (self.quantum, self.left)).write(into)
     }
 
@@ -254,7 +255,7 @@ impl Packed for ClassState {
 
     ghost again = { class_again };
 
-    fn write(&self, into: &mut Vec<u64>) -> Result<(), AllocError> {
+    fn write(&self, into: &mut Writer) -> Result<(), AllocError> {
         match self {
             ClassState::Ts(state) => (0u64, *state).write(into),
             ClassState::Fx(state) => (1u64, *state).write(into),

@@ -1,6 +1,7 @@
 //! Duties of a processor.
 
 use crate::packed::Packed;
+use crate::writer::Writer;
 use sd_types::{ChanId, Duty, LockId, ThreadId};
 use std::alloc::AllocError;
 
@@ -18,7 +19,7 @@ impl Packed for Duty {
 
     ghost again = { duty_again };
 
-    fn write(&self, into: &mut Vec<u64>) -> Result<(), AllocError> {
+    fn write(&self, into: &mut Writer) -> Result<(), AllocError> {
         match self {
             Duty::Nothing => 0u64.write(into),
             Duty::Walk { lock, seek, key } => (1u64, (*lock, (*seek, *key))).write(into),

@@ -1,28 +1,26 @@
 //! States as bytes.
 
-ghost use Rattle.std.specs.Prelude.{◌≡◌, ◌++◌, Some, OnOk, IfOk};
-ghost use Rattle.sd_encoding.specs.Bytes.{Extends};
+ghost use Rattle.std.specs.Prelude.{◌≡◌, Some, OnOk, IfOk};
 ghost use Rattle.sd_encoding.specs.Encoding.{encoded, state_in, IsHeld, StatesAreReadAgain, EncodingsDiffer};
+ghost use Rattle.sd_encoding.specs.Ranks.{ranked};
 ghost use Rattle.sd_state.specs.declared.states.State.{State};
 
-use crate::bytes::{read_numbers, write_numbers};
-use crate::states::{read_state, write_state};
+use crate::bytes::read_numbers;
+use crate::ranks::write_ranked;
+use crate::states::read_state;
+use crate::writer::Writer;
 use sd_state::State;
 use std::alloc::{AllocError, Global};
 
-/// The numbers for which there is room from the first (this project's own): most states of a search have fewer.
-const FIRST_ROOM: usize = 512;
-
-/// Writes the bytes of a state at the end of `into`. Where memory runs out, `into` has what it had, and maybe bytes after it.
+/// The bytes of a state with its rank for each key, in the place of those of `room`.
 #[tactic(auto, unfolding(crate::specs::Encoding::encoded))]
-pub fn encode(alloc: Global, state: &State, into: &mut Vec<u8>) -> Result<(), AllocError>
-    ensures written { OnOk result (into.new.items ≡ into.old.items ++ encoded state.now) }
-    ensures held { OnOk result (IsHeld state.now) }
-    ensures kept { Extends into.old.items into.new.items }
+pub fn encode(state: &State, room: Vec<u8>) -> Result<Vec<u8>, AllocError>
+    ensures bytes { IfOk result (λ bytes. bytes.items ≡ encoded (ranked state.now)) }
+    ensures held { OnOk result (IsHeld (ranked state.now)) }
 {
-    let mut numbers = Vec::with_capacity(alloc, FIRST_ROOM)?;
-    write_state(state, &mut numbers)?;
-    write_numbers(&numbers, into)
+    let mut writer = Writer::new(room);
+    write_ranked(state, &mut writer)?;
+    writer.finish()
 }
 
 /// The state that the bytes spell. `None` where they spell none that the program can hold.

@@ -1,6 +1,7 @@
 //! The numbers of processors, threads, locks, channels and sets, and the side on which a thread waits.
 
 use crate::packed::Packed;
+use crate::writer::Writer;
 use sd_types::{ChanId, CpuId, LockId, SetId, Side, ThreadId};
 use std::alloc::AllocError;
 
@@ -18,7 +19,7 @@ impl Packed for CpuId {
 
     ghost again = { cpu_id_again };
 
-    fn write(&self, into: &mut Vec<u64>) -> Result<(), AllocError> {
+    fn write(&self, into: &mut Writer) -> Result<(), AllocError> {
         self.0.write(into)
     }
 
@@ -43,7 +44,7 @@ impl Packed for ThreadId {
 
     ghost again = { thread_id_again };
 
-    fn write(&self, into: &mut Vec<u64>) -> Result<(), AllocError> {
+    fn write(&self, into: &mut Writer) -> Result<(), AllocError> {
         self.0.write(into)
     }
 
@@ -68,7 +69,7 @@ impl Packed for LockId {
 
     ghost again = { lock_id_again };
 
-    fn write(&self, into: &mut Vec<u64>) -> Result<(), AllocError> {
+    fn write(&self, into: &mut Writer) -> Result<(), AllocError> {
         self.0.write(into)
     }
 
@@ -93,7 +94,7 @@ impl Packed for ChanId {
 
     ghost again = { chan_id_again };
 
-    fn write(&self, into: &mut Vec<u64>) -> Result<(), AllocError> {
+    fn write(&self, into: &mut Writer) -> Result<(), AllocError> {
         self.0.write(into)
     }
 
@@ -118,7 +119,7 @@ impl Packed for SetId {
 
     ghost again = { set_id_again };
 
-    fn write(&self, into: &mut Vec<u64>) -> Result<(), AllocError> {
+    fn write(&self, into: &mut Writer) -> Result<(), AllocError> {
         self.0.write(into)
     }
 
@@ -143,7 +144,7 @@ impl Packed for Side {
 
     ghost again = { λ x rest _. side_again x rest };
 
-    fn write(&self, into: &mut Vec<u64>) -> Result<(), AllocError> {
+    fn write(&self, into: &mut Writer) -> Result<(), AllocError> {
         match self {
             Side::Writer => into.push(0)?,
             Side::Reader => into.push(1)?,

@@ -8,12 +8,13 @@ ghost use Rattle.sd_encoding.specs.Reading.{listed_at, items_at};
 
 use crate::packed::Packed;
 use crate::plain::first;
+use crate::writer::Writer;
 use sd_types::List;
 use std::alloc::{AllocError, Global};
 
 /// Writes how many items there are, and each of them.
-pub fn write_items<T: Packed>(items: &[T], into: &mut Vec<u64>) -> Result<(), AllocError>
-    ensures written { OnOk result (into.new.items ≡ into.old.items ++ listed T.numbers_of items.now) }
+pub fn write_items<T: Packed>(items: &[T], into: &mut Writer) -> Result<(), AllocError>
+    ensures written { OnOk result (into.new ≡ into.old ++ listed T.numbers_of items.now) }
     ensures fits { OnOk result (All T.fits items.now) }
 {
     into.push(items.len() as u64)?;

@@ -3,6 +3,7 @@
 #![tactic(auto)]
 
 mod arrays;
+mod buffer;
 mod bytes;
 mod classes;
 mod clock;
@@ -22,8 +23,9 @@ mod sets;
 mod states;
 mod store;
 mod threads;
+mod writer;
 
-pub use bytes::{read_numbers, write_numbers};
+pub use bytes::read_numbers;
 pub use encoding::{decode, encode, encodings_differ, states_are_read_again};
 pub use ordered::Ordered;
-pub use ranks::rank;
+pub use writer::Writer;

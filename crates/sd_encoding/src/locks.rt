@@ -1,6 +1,7 @@
 //! Locks.
 
 use crate::packed::Packed;
+use crate::writer::Writer;
 use sd_state::LockState;
 use sd_types::{CpuId, ThreadId};
 use std::alloc::AllocError;
@@ -19,7 +20,7 @@ impl Packed for LockState {
 
     ghost again = { lock_again };
 
-    fn write(&self, into: &mut Vec<u64>) -> Result<(), AllocError> {
+    fn write(&self, into: &mut Writer) -> Result<(), AllocError> {
         match self {
             LockState::Free => 0u64.write(into),
             LockState::Owned(thread) => (1u64, *thread).write(into),

@@ -1,5 +1,6 @@
 //! What can be written as numbers and read again.
 
+use crate::writer::Writer;
 use std::alloc::AllocError;
 
 /// A value that is written as a list of numbers, and read again from the front of one.
@@ -17,8 +18,8 @@ pub trait Packed {
     ghost at: { List ℕ → Option (Self × List ℕ) };
 
     /// Writes its numbers at the end.
-    fn write(&self, into: &mut Vec<u64>) -> Result<(), AllocError>
-        ensures written { OnOk result (into.new.items ≡ into.old.items ++ numbers_of self.now) }
+    fn write(&self, into: &mut Writer) -> Result<(), AllocError>
+        ensures written { OnOk result (into.new ≡ into.old ++ numbers_of self.now) }
         ensures fits { OnOk result (fits self.now) };
 
     /// What the numbers begin with, and those after it; `None` where they begin with no such value.

@@ -1,6 +1,7 @@
 //! Where a thread is.
 
 use crate::packed::Packed;
+use crate::writer::Writer;
 use sd_state::Place;
 use sd_types::{ChanId, CpuId, LockId, SetId, Side};
 use std::alloc::AllocError;
@@ -19,7 +20,7 @@ impl Packed for Place {
 
     ghost again = { place_again };
 
-    fn write(&self, into: &mut Vec<u64>) -> Result<(), AllocError> {
+    fn write(&self, into: &mut Writer) -> Result<(), AllocError> {
         match self {
             Place::Running(cpu) => (0u64, *cpu).write(into),
             Place::Queued(cpu, key) => (1u64, (*cpu, *key)).write(into),

@@ -6,6 +6,7 @@ ghost use Rattle.sd_encoding.specs.Numbers.{zigzag};
 ghost use Rattle.sd_encoding.specs.Reading.{number_at, below_at, unzigzag};
 
 use crate::packed::Packed;
+use crate::writer::Writer;
 use std::alloc::AllocError;
 
 /// The first of the numbers, and those after it.
@@ -60,7 +61,7 @@ impl Packed for u8 {
 
     ghost again = { below_again (2 ^ 8) };
 
-    fn write(&self, into: &mut Vec<u64>) -> Result<(), AllocError> {
+    fn write(&self, into: &mut Writer) -> Result<(), AllocError> {
         let number = *self;
         into.push(u64::from(number))?;
         Ok(())
@@ -90,7 +91,7 @@ impl Packed for u16 {
 
     ghost again = { below_again (2 ^ 16) };
 
-    fn write(&self, into: &mut Vec<u64>) -> Result<(), AllocError> {
+    fn write(&self, into: &mut Writer) -> Result<(), AllocError> {
         let number = *self;
         into.push(u64::from(number))?;
         Ok(())
@@ -120,7 +121,7 @@ impl Packed for u32 {
 
     ghost again = { below_again (2 ^ 32) };
 
-    fn write(&self, into: &mut Vec<u64>) -> Result<(), AllocError> {
+    fn write(&self, into: &mut Writer) -> Result<(), AllocError> {
         let number = *self;
         into.push(u64::from(number))?;
         Ok(())
@@ -151,7 +152,7 @@ impl Packed for u64 {
 
     ghost again = { λ n rest _. number_again n rest };
 
-    fn write(&self, into: &mut Vec<u64>) -> Result<(), AllocError> {
+    fn write(&self, into: &mut Writer) -> Result<(), AllocError> {
         into.push(*self)?;
         Ok(())
     }
@@ -175,7 +176,7 @@ impl Packed for i8 {
 
     ghost again = { signed_byte_again };
 
-    fn write(&self, into: &mut Vec<u64>) -> Result<(), AllocError> {
+    fn write(&self, into: &mut Writer) -> Result<(), AllocError> {
         let number = *self;
         into.push(zigzag(i64::from(number)))?;
         Ok(())
@@ -202,7 +203,7 @@ impl Packed for i64 {
 
     ghost again = { λ z rest _. signed_again z rest };
 
-    fn write(&self, into: &mut Vec<u64>) -> Result<(), AllocError> {
+    fn write(&self, into: &mut Writer) -> Result<(), AllocError> {
         into.push(zigzag(*self))?;
         Ok(())
     }
@@ -228,7 +229,7 @@ impl Packed for bool {
 
     ghost again = { λ b rest _. truth_again b rest };
 
-    fn write(&self, into: &mut Vec<u64>) -> Result<(), AllocError> {
+    fn write(&self, into: &mut Writer) -> Result<(), AllocError> {
         if *self {
             into.push(1)?;
         } else {
@@ -262,7 +263,7 @@ impl<T: Packed> Packed for Option<T> {
 
     ghost again = { optional_again T.numbers_of T.fits T.at T.again };
 
-    fn write(&self, into: &mut Vec<u64>) -> Result<(), AllocError> {
+    fn write(&self, into: &mut Writer) -> Result<(), AllocError> {
         match self {
             None => into.push(0)?,
             Some(x) => {
@@ -300,7 +301,7 @@ impl<A: Packed + Copy, B: Packed + Copy> Packed for (A, B) {
 
     ghost again = { pair_again A.numbers_of A.fits A.at A.again B.numbers_of B.fits B.at B.again };
 
-    fn write(&self, into: &mut Vec<u64>) -> Result<(), AllocError> {
+    fn write(&self, into: &mut Writer) -> Result<(), AllocError> {
         self.0.write(into)?;
         self.1.write(into)
     }

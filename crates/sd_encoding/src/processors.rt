@@ -1,6 +1,7 @@
 //! Processors.
 
 use crate::packed::Packed;
+use crate::writer::Writer;
 use sd_state::CpuState;
 use sd_types::{Duty, SetId};
 use std::alloc::AllocError;
@@ -20,7 +21,7 @@ impl Packed for CpuState {
     ghost again = { cpu_again };
 
     #[tactic(auto, unfolding(crate::specs::Numbers::cpu))]
-    fn write(&self, into: &mut Vec<u64>) -> Result<(), AllocError> {
+    fn write(&self, into: &mut Writer) -> Result<(), AllocError> {
         (
             (self.count, (self.user, self.kernel)),
             (self.duty, (self.set, (self.closing, self.bound))),

@@ -1,15 +1,19 @@
 //! A state with its rank for each key: how many keys of the state are smaller. Keys count only by their order, so states whose
 //! keys have the same order become one.
 
-ghost use Rattle.std.specs.Prelude.{◌≡◌, ◌≤◌, Some, OnOk, OnErr, IfOk, length, map};
-ghost use Rattle.std.specs.List.{count_by};
+ghost use Rattle.std.specs.Prelude.{◌≡◌, ◌≤◌, ◌++◌, Some, OnOk, length, map};
+ghost use Rattle.std.specs.List.{All, count_by};
+ghost use Rattle.sd_encoding.specs.Fits.{FitsCpu, FitsState, FitsThread};
+ghost use Rattle.sd_encoding.specs.Numbers.{cpu as cpu_numbers, listed, thread as thread_numbers, vector};
 ghost use Rattle.sd_encoding.specs.Order.{is_below, key_at, key_in};
-ghost use Rattle.sd_encoding.specs.Ranks.{many_below, rank, ranked, ranked_duty, ranked_place};
-ghost use Rattle.sd_encoding.specs.Rewriting.{with_duties, with_places};
+ghost use Rattle.sd_encoding.specs.Ranks.{many_below, rank, ranked, ranked_cpu, ranked_duty, ranked_place, ranked_thread};
 
+use crate::items::write_items;
+use crate::packed::Packed;
+use crate::writer::Writer;
 use sd_state::{CpuState, Place, State, ThreadState};
 use sd_types::Duty;
-use std::alloc::{AllocError, Global};
+use std::alloc::AllocError;
 
 /// The key of a thread that stands on a queue, on a turnstile or on a sleep queue.
 fn key_at(place: Place) -> Option<i64>
@@ -113,56 +117,68 @@ fn ranked_duty(state: &State, duty: Duty) -> Duty
     }
 }
 
-/// The places of the threads with the ranks of their keys.
-fn ranked_places(alloc: Global, state: &State) -> Result<Vec<Place>, AllocError>
-    ensures { IfOk result (λ places. places.items ≡ map (λ x. ranked_place state.now x.place) state.now.threads) }
+/// Writes the numbers of a thread with the rank of its key.
+#[tactic(auto, unfolding(crate::specs::Numbers::thread))]
+fn write_ranked_thread(
+    state: &State,
+    thread: &ThreadState,
+    into: &mut Writer,
+) -> Result<(), AllocError>
+    ensures written { OnOk result (into.new ≡ into.old ++ thread_numbers (ranked_thread state.now thread.now)) }
+    ensures fits { OnOk result (FitsThread (ranked_thread state.now thread.now)) }
 {
-    let mut places = Vec::with_capacity(alloc, state.threads.items().len())?;
-    for thread in state.threads.items() {
-        places.push(ranked_place(state, thread.place))?;
-    }
-    Ok(places)
+    thread.body.write(into)?;
+    ranked_place(state, thread.place).write(into)
 }
 
-/// The duties of the processors with the ranks of their keys.
-fn ranked_duties(alloc: Global, state: &State) -> Result<Vec<Duty>, AllocError>
-    ensures { IfOk result (λ duties. duties.items ≡ map (λ x. ranked_duty state.now x.duty) state.now.cpus) }
+/// Writes the numbers of a processor with the rank of its key.
+fn write_ranked_cpu(state: &State, cpu: &CpuState, into: &mut Writer) -> Result<(), AllocError>
+    ensures written { OnOk result (into.new ≡ into.old ++ cpu_numbers (ranked_cpu state.now cpu.now)) }
+    ensures fits { OnOk result (FitsCpu (ranked_cpu state.now cpu.now)) }
 {
-    let mut duties = Vec::with_capacity(alloc, state.cpus.items().len())?;
-    for cpu in state.cpus.items() {
-        duties.push(ranked_duty(state, cpu.duty))?;
-    }
-    Ok(duties)
+    let duty = ranked_duty(state, cpu.duty);
+    let ranked = CpuState { duty, ..*cpu };
+    ranked.write(into)
 }
 
-/// Puts each thread at its place of this list.
-fn put_places(threads: &mut [ThreadState], places: &[Place])
-    requires { length places.now ≡ length threads.old }
-    ensures { threads.new ≡ with_places threads.old places.now }
+/// Writes how many threads there are, and the numbers of each with the rank of its key.
+fn write_ranked_threads(
+    state: &State,
+    threads: &[ThreadState],
+    into: &mut Writer,
+) -> Result<(), AllocError>
+    ensures written { OnOk result (into.new ≡ into.old ++ listed thread_numbers (map (ranked_thread state.now) threads.now)) }
+    ensures fits { OnOk result (All FitsThread (map (ranked_thread state.now) threads.now)) }
 {
-    for index in 0..places.len() {
-        threads[index].place = places[index];
+    into.push(threads.len() as u64)?;
+    for thread in threads {
+        write_ranked_thread(state, thread, into)?;
     }
+    Ok(())
 }
 
-/// Gives each processor its duty of this list.
-fn put_duties(cpus: &mut [CpuState], duties: &[Duty])
-    requires { length duties.now ≡ length cpus.old }
-    ensures { cpus.new ≡ with_duties cpus.old duties.now }
+/// Writes how many processors there are, and the numbers of each with the rank of its key.
+fn write_ranked_cpus(state: &State, cpus: &[CpuState], into: &mut Writer) -> Result<(), AllocError>
+    ensures written { OnOk result (into.new ≡ into.old ++ listed cpu_numbers (map (ranked_cpu state.now) cpus.now)) }
+    ensures fits { OnOk result (All FitsCpu (map (ranked_cpu state.now) cpus.now)) }
 {
-    for index in 0..duties.len() {
-        cpus[index].duty = duties[index];
+    into.push(cpus.len() as u64)?;
+    for cpu in cpus {
+        write_ranked_cpu(state, cpu, into)?;
     }
+    Ok(())
 }
 
-/// Makes each key of the state its rank. Where memory runs out, the state stays as it was.
-pub fn rank(alloc: Global, state: &mut State) -> Result<(), AllocError>
-    ensures ranked { OnOk result (state.new ≡ ranked state.old) }
-    ensures err { OnErr result (state.new ≡ state.old) }
+/// Writes the numbers of a state with its rank for each key.
+#[tactic(auto, unfolding(crate::specs::Numbers::vector))]
+pub(crate) fn write_ranked(state: &State, into: &mut Writer) -> Result<(), AllocError>
+    ensures written { OnOk result (into.new ≡ into.old ++ vector (ranked state.now)) }
+    ensures fits { OnOk result (FitsState (ranked state.now)) }
 {
-    let places = ranked_places(alloc, state)?;
-    let duties = ranked_duties(alloc, state)?;
-    put_places(state.threads.items_mut(), &places);
-    put_duties(state.cpus.items_mut(), &duties);
+    write_ranked_threads(state, state.threads.items(), into)?;
+    write_items(state.locks.items(), into)?;
+    write_ranked_cpus(state, state.cpus.items(), into)?;
+    write_items(state.counts.items(), into)?;
+    write_items(state.open_cpus.items(), into)?;
     Ok(())
 }

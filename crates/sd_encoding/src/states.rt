@@ -1,28 +1,12 @@
 //! States as numbers.
 
-ghost use Rattle.std.specs.Prelude.{◌≡◌, ◌++◌, OnOk, IfOk};
+ghost use Rattle.std.specs.Prelude.{◌≡◌, IfOk};
 ghost use Rattle.std.specs.Option.{option_map};
-ghost use Rattle.sd_encoding.specs.Fits.{FitsState};
-ghost use Rattle.sd_encoding.specs.Numbers.{vector};
 ghost use Rattle.sd_encoding.specs.Reading.{state_at};
 
-use crate::items::{read_list, write_items};
+use crate::items::read_list;
 use sd_state::State;
 use std::alloc::{AllocError, Global};
-
-/// Writes the numbers of a state at the end.
-#[tactic(auto, unfolding(crate::specs::Numbers::vector))]
-pub fn write_state(state: &State, into: &mut Vec<u64>) -> Result<(), AllocError>
-    ensures written { OnOk result (into.new.items ≡ into.old.items ++ vector state.now) }
-    ensures fits { OnOk result (FitsState state.now) }
-{
-    write_items(state.threads.items(), into)?;
-    write_items(state.locks.items(), into)?;
-    write_items(state.cpus.items(), into)?;
-    write_items(state.counts.items(), into)?;
-    write_items(state.open_cpus.items(), into)?;
-    Ok(())
-}
 
 /// What state the numbers begin with, and the numbers after it.
 #[tactic(auto, unfolding(crate::specs::Reading::state_at))]

@@ -1,6 +1,7 @@
 //! Threads: what moves with them, and their places.
 
 use crate::packed::Packed;
+use crate::writer::Writer;
 use arrayvec::ArrayVec;
 use sd_state::{Place, ThreadState};
 use sd_types::{ClassState, CpuId, ThreadBody};
@@ -21,7 +22,7 @@ impl Packed for ThreadBody {
     ghost again = { body_again };
 
     #[tactic(auto, unfolding(crate::specs::Numbers::body))]
-    fn write(&self, into: &mut Vec<u64>) -> Result<(), AllocError> {
+    fn write(&self, into: &mut Writer) -> Result<(), AllocError> {
         self.class.write(into)?;
         self.willed.write(into)?;
         self.held.write(into)?;
@@ -77,7 +78,7 @@ impl Packed for ThreadState {
     ghost again = { thread_again };
 
     #[tactic(auto, unfolding(crate::specs::Numbers::thread))]
-    fn write(&self, into: &mut Vec<u64>) -> Result<(), AllocError> {
+    fn write(&self, into: &mut Writer) -> Result<(), AllocError> {
         self.body.write(into)?;
         self.place.write(into)
     }

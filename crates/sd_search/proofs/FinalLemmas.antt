@@ -12,7 +12,8 @@ use Rattle.sd_types.specs.declared.events.Entry.{Entry}
 use Rattle.sd_types.specs.declared.works.Work.{Work}
 use Rattle.sd_state.specs.declared.states.State.{State}
 use Rattle.sd_state.specs.Opening.{opening}
-use Rattle.sd_machine.specs.Runs.{IsReached, final, round}
+use Rattle.sd_machine.specs.Events.{next}
+use Rattle.sd_machine.specs.Runs.{IsReached, final, round, serial_hints}
 use Rattle.sd_encoding.specs.Order.{KeysFit}
 use Rattle.sd_search.specs.Closed.{IsClosed}
 use Rattle.sd_search.specs.Spelled.{IsSpelled}
@@ -27,8 +28,19 @@ use Rattle.sd_search.specs.Questions.{HasNoWitness, HasPart, IsWitness, Meets}
 use Rattle.sd_search.proofs.BackLemmas.{turned}
 use Rattle.sd_search.proofs.KeyLemmas.{keys_reached}
 use Rattle.sd_search.proofs.QuestionLemmas.{meets_same}
-use Rattle.sd_search.proofs.TellLemmas.{inside_at}
+use Rattle.sd_search.proofs.TellLemmas.{at_same, inside_at}
 use Rattle.sd_search.specs.declared.graph.Graph.{Graph}
+
+-- no run ends in a state from which another was reached
+pub never_ends : (w : Work) (bs : List (List ℕ)) (steps : List Step) (done : ℕ) → IsGathered w bs steps done → (i to : ℕ) (step : Step) → 0 < to → slice_get steps to ≡ Some step → step.before ≡ i → Ends w bs i → ⊥
+never_ends w bs steps done g i zero step lt at is ends = absurd (omega arith)
+never_ends w bs steps done g i (suc k) step lt at is ends =
+    let r = g.reached k step at in
+    let here : IsAt bs i r.from = subst (λ n. IsAt bs n r.from) is r.from_at in
+    let same : r.from ≡ ends.state = at_same bs i r.from ends.state here ends.at in
+    let some : next w ends.state step.cpu (serial_hints w ends.state step.cpu) ≡ Some r.turn.event = subst (λ z. next w z step.cpu (serial_hints w z step.cpu) ≡ Some r.turn.event) same r.turn.makes in
+    let none = ends.complete step.cpu (serial_hints w ends.state step.cpu) in
+    cc
 
 module _ (w : Work) (bs : List (List ℕ)) where
   -- one more, where a run ends there

@@ -1,6 +1,7 @@
-//! A state once more: a turn is made on a copy, so that the state from which it leads stays for the other processors.
+//! A state once more: a turn is made on a copy, so that the state from which it leads stays for the other processors. The copy
+//! goes where another state of the same workload stands, so that it takes no memory.
 
-ghost use Rattle.std.specs.Prelude.{◌≡◌, IfOk};
+ghost use Rattle.std.specs.Prelude.{◌≡◌, length, IfOk, OnOk};
 
 use arrayvec::ArrayVec;
 use sd_record::{copied, copied_body};
@@ -21,6 +22,33 @@ fn copied_threads(alloc: Global, threads: &[ThreadState]) -> Result<Vec<ThreadSt
     Ok(copies)
 }
 
+fn put_threads(threads: &mut [ThreadState], from: &[ThreadState])
+    requires { length threads.old ≡ length from.now }
+    ensures { threads.new ≡ from.now }
+{
+    for i in 0..from.len() {
+        threads[i] = ThreadState {
+            body: copied_body(&from[i].body),
+            place: from[i].place,
+        };
+    }
+}
+
+fn copy_threads(
+    alloc: Global,
+    from: &[ThreadState],
+    threads: &mut List<ThreadState>,
+) -> Result<(), AllocError>
+    ensures { OnOk result (threads.new ≡ from.now) }
+{
+    if threads.items().len() == from.len() {
+        put_threads(threads.items_mut(), from);
+    } else {
+        *threads = List::from_vec(copied_threads(alloc, from)?);
+    }
+    Ok(())
+}
+
 fn copied_sets(
     alloc: Global,
     sets: &[ArrayVec<CpuId, 64>],
@@ -34,20 +62,53 @@ fn copied_sets(
     Ok(copies)
 }
 
-/// The same state in memory of its own.
-pub(crate) fn copied_state(alloc: Global, state: &State) -> Result<State, AllocError>
-    ensures { IfOk result (λ copy. copy ≡ state.now) }
+fn put_sets(sets: &mut [ArrayVec<CpuId, 64>], from: &[ArrayVec<CpuId, 64>])
+    requires { length sets.old ≡ length from.now }
+    ensures { sets.new ≡ from.now }
 {
-    let threads = copied_threads(alloc, state.threads.items())?;
-    let locks = Vec::from_slice(alloc, state.locks.items())?;
-    let cpus = Vec::from_slice(alloc, state.cpus.items())?;
-    let counts = Vec::from_slice(alloc, state.counts.items())?;
-    let open_cpus = copied_sets(alloc, state.open_cpus.items())?;
-    Ok(State {
-        threads: List::from_vec(threads),
-        locks: List::from_vec(locks),
-        cpus: List::from_vec(cpus),
-        counts: List::from_vec(counts),
-        open_cpus: List::from_vec(open_cpus),
-    })
+    for i in 0..from.len() {
+        sets[i] = copied(&from[i]);
+    }
+}
+
+fn copy_sets(
+    alloc: Global,
+    from: &[ArrayVec<CpuId, 64>],
+    sets: &mut List<ArrayVec<CpuId, 64>>,
+) -> Result<(), AllocError>
+    ensures { OnOk result (sets.new ≡ from.now) }
+{
+    if sets.items().len() == from.len() {
+        put_sets(sets.items_mut(), from);
+    } else {
+        *sets = List::from_vec(copied_sets(alloc, from)?);
+    }
+    Ok(())
+}
+
+fn copy_items<T: Copy + Drop>(
+    alloc: Global,
+    from: &[T],
+    items: &mut List<T>,
+) -> Result<(), AllocError>
+    ensures { OnOk result (items.new ≡ from.now) }
+{
+    if items.items().len() == from.len() {
+        items.items_mut().copy_from_slice(from);
+    } else {
+        *items = List::from_vec(Vec::from_slice(alloc, from)?);
+    }
+    Ok(())
+}
+
+/// Makes the one state as the other is. It takes memory only where a list has another length.
+pub(crate) fn copy_state(alloc: Global, from: &State, state: &mut State) -> Result<(), AllocError>
+    ensures { OnOk result (state.new ≡ from.now) }
+{
+    copy_threads(alloc, from.threads.items(), &mut state.threads)?;
+    copy_items(alloc, from.locks.items(), &mut state.locks)?;
+    copy_items(alloc, from.cpus.items(), &mut state.cpus)?;
+    copy_items(alloc, from.counts.items(), &mut state.counts)?;
+    copy_sets(alloc, from.open_cpus.items(), &mut state.open_cpus)?;
+    Ok(())
 }

@@ -6,15 +6,14 @@ ghost use Rattle.sd_machine.specs.Runs.{serial_hints};
 ghost use Rattle.sd_search.specs.Closed.{Has};
 ghost use Rattle.sd_search.specs.Spelled.{IsTurn};
 ghost use Rattle.sd_state.specs.declared.states.State.{State as StateOf};
+ghost use Rattle.sd_encoding.specs.Encoding.{IsHeld, encoded};
 ghost use Rattle.sd_encoding.specs.Ranks.{ranked};
 ghost use Rattle.sd_search.specs.Graphs.{AreTurned, Gathers, IsAmong, IsAt, IsGrown, IsTurned, packed};
 
-use crate::copying::copied_state;
 use crate::graph::{Graph, Step};
-use crate::packing::pack;
+use crate::room::Room;
 use crate::store::insert;
-use sd_encoding::rank;
-use sd_replay::{apply, serial_next};
+use sd_replay::serial_next;
 use sd_state::State;
 use sd_types::{CpuId, Event, Work};
 use std::alloc::{AllocError, Global};
@@ -24,24 +23,18 @@ use std::alloc::{AllocError, Global};
 const MOST_BEFORE: usize = 0xffff_ffff;
 
 impl Graph {
-    /// Puts in a state that a turn leads to, where it is not there yet.
-    fn add(
-        &mut self,
-        alloc: Global,
-        work: &Work,
-        state: &State,
-        step: Step,
-    ) -> Result<(), AllocError>
+    /// Puts in the state that a turn has led to, where it is not there yet.
+    fn add(&mut self, alloc: Global, work: &Work, room: &Room, step: Step) -> Result<(), AllocError>
         requires gathered { Gathers work.now self.old }
-        requires turn { (x : StateOf) × IsAt (packed self.old) step.before x × IsTurn work.now x step.cpu state.now }
-        requires ranks { ranked state.now ≡ state.now }
+        requires turn { (x : StateOf) × IsAt (packed self.old) step.before x × IsTurn work.now x step.cpu (ranked room.now.state) }
+        requires held { IsHeld (ranked room.now.state) }
+        requires bytes { room.now.bytes.items ≡ encoded (ranked room.now.state) }
         requires last { step.before ≡ self.old.done }
         ensures grown { OnOk result (IsGrown work.now self.old self.new) }
-        ensures has { OnOk result (IsAmong (packed self.new) state.now) }
+        ensures has { OnOk result (IsAmong (packed self.new) (ranked room.now.state)) }
         ensures few { OnOk result (length (packed self.new) ≤ length (packed self.old) + 1) }
     {
-        let bytes = pack(alloc, state)?;
-        let is_new = insert(&mut self.states, bytes)?;
+        let is_new = insert(alloc, &mut self.states, &room.bytes)?;
         if is_new {
             self.steps.push(step)?;
         }
@@ -57,6 +50,7 @@ impl Graph {
         from: &State,
         c: CpuId,
         event: Event,
+        room: &mut Room,
     ) -> Result<(), AllocError>
         requires gathered { Gathers work.now self.old }
         requires at { IsAt (packed self.old) i from.now }
@@ -69,11 +63,9 @@ impl Graph {
         if i > MOST_BEFORE {
             return Err(AllocError);
         }
-        let mut state = copied_state(alloc, from)?;
-        apply(work, &mut state, 0, c, event);
-        rank(alloc, &mut state)?;
+        room.take_turn(alloc, work, from, c, event)?;
         let before = i as u32;
-        self.add(alloc, work, &state, Step { before, cpu: c })
+        self.add(alloc, work, room, Step { before, cpu: c })
     }
 
     /// Puts in the state that the turn of processor `c` leads to from state number `i`, where it has one.
@@ -84,6 +76,7 @@ impl Graph {
         i: usize,
         state: &State,
         c: CpuId,
+        room: &mut Room,
     ) -> Result<(), AllocError>
         requires gathered { Gathers work.now self.old }
         requires at { IsAt (packed self.old) i state.now }
@@ -95,7 +88,7 @@ impl Graph {
     {
         let (_, event) = serial_next(work, state, c);
         match event {
-            Some(event) => self.follow(alloc, work, i, state, c, event),
+            Some(event) => self.follow(alloc, work, i, state, c, event, room),
             None => Ok(()),
         }
     }
@@ -109,6 +102,7 @@ impl Graph {
         i: usize,
         state: &State,
         most: usize,
+        room: &mut Room,
     ) -> Result<bool, AllocError>
         requires gathered { Gathers work.now self.old }
         requires at { IsAt (packed self.old) i state.now }
@@ -122,7 +116,7 @@ impl Graph {
             if self.states.len() >= most {
                 return Ok(false);
             }
-            self.visit(alloc, work, i, state, CpuId(c))?;
+            self.visit(alloc, work, i, state, CpuId(c), room)?;
         }
         Ok(true)
     }
@@ -133,6 +127,7 @@ impl Graph {
         alloc: Global,
         work: &Work,
         most: usize,
+        room: &mut Room,
     ) -> Result<(), AllocError>
         requires gathered { Gathers work.now self.old }
         requires more { self.old.done < length (packed self.old) }
@@ -143,7 +138,7 @@ impl Graph {
     {
         let i = self.done;
         let state = self.state(alloc, work, i)?;
-        if !self.visit_all(alloc, work, i, &state, most)? {
+        if !self.visit_all(alloc, work, i, &state, most, room)? {
             return Ok(());
         }
         self.done = i + 1;

@@ -5,9 +5,9 @@ ghost use Rattle.sd_search.specs.Graphs.{AreApart, Gathers, HasEveryRun, packed}
 
 use crate::graph::{Graph, Step};
 use crate::packing::pack;
+use crate::room::Room;
 use crate::store::insert;
 use indexmap::IndexSet;
-use sd_encoding::rank;
 use sd_opening::opening;
 use sd_types::{CpuId, Work};
 use std::alloc::{AllocError, Global};
@@ -18,11 +18,10 @@ pub fn begin(alloc: Global, work: &Work) -> Result<Graph, AllocError>
     ensures one { IfOk result (λ g. length (packed g) ≡ 1) }
     ensures none { IfOk result (λ g. g.done ≡ 0) }
 {
-    let mut state = opening(alloc, work)?;
-    rank(alloc, &mut state)?;
-    let bytes = pack(alloc, &state)?;
+    let state = opening(alloc, work)?;
+    let bytes = pack(&state, Vec::new(alloc))?;
     let mut states = IndexSet::new(alloc);
-    insert(&mut states, bytes)?;
+    insert(alloc, &mut states, &bytes)?;
     let mut steps = Vec::new(alloc);
     steps.push(Step {
         before: 0,
@@ -52,9 +51,10 @@ pub fn explore_more(
     ensures ends { OnOk result ((graph.new.done ≡ graph.old.done + states) ⊎ (length (packed graph.new) ≤ graph.new.done) ⊎ (most ≤ length (packed graph.new))) }
     ensures few { OnOk result ((length (packed graph.new) ≤ most) ⊎ (packed graph.new ≡ packed graph.old)) }
 {
+    let mut room = Room::new(alloc);
     let mut left = states;
     'states: while left > 0 && graph.done < graph.len() && graph.len() < most {
-        graph.expand(alloc, work, most)?;
+        graph.expand(alloc, work, most, &mut room)?;
         left -= 1;
     }
     Ok(())

@@ -1,6 +1,6 @@
 //! The states in which runs end, and which of them are as was asked for.
 
-ghost use Rattle.std.specs.Prelude.{◌≡◌, ◌↔◌, ◌<◌, [], ◌∷◌, ◌++◌, length, if◌then◌else◌, IsTrue, IfOk, OnOk};
+ghost use Rattle.std.specs.Prelude.{◌≡◌, ◌↔◌, ◌<◌, [], ◌∷◌, ◌++◌, true, length, if◌then◌else◌, IsTrue, IfOk, OnOk};
 ghost use Rattle.sd_state.specs.declared.states.State.{State as StateOf};
 ghost use Rattle.sd_search.specs.Finals.{AreFinals, Ends, IsAnswer, IsFirst, IsOpenAnswer};
 ghost use Rattle.sd_search.specs.Graphs.{Gathers, IsAt, packed};
@@ -22,12 +22,36 @@ fn note(finals: &mut Vec<usize>, i: usize, ends: bool) -> Result<(), AllocError>
 }
 
 impl Graph {
-    /// A run ends in state number `i`.
-    fn is_final(&self, alloc: Global, work: &Work, i: usize) -> Result<bool, AllocError>
+    /// State number `to` was reached from state number `i`, so that no run ends there.
+    fn leads_to(&self, work: &Work, i: usize, to: usize) -> bool
+        requires gathered { Gathers work.now self.now }
+        ensures { result ≡ true → Ends work.now (packed self.now) i → ⊥ }
+    {
+        if to == 0 || to >= self.steps.len() {
+            return false;
+        }
+        self.steps[to].before as usize == i
+    }
+
+    /// The first state from number `to` on that was reached from none up to number `i`. It only says where to look: `leads_to` tells.
+    fn first_after(&self, i: usize, to: usize) -> usize {
+        for next in to..self.steps.len() {
+            if self.steps[next].before as usize > i {
+                return next;
+            }
+        }
+        self.steps.len()
+    }
+
+    /// A run ends in state number `i`. Where state number `to` was reached from there, it is not looked at.
+    fn is_final(&self, alloc: Global, work: &Work, i: usize, to: usize) -> Result<bool, AllocError>
         requires gathered { Gathers work.now self.now }
         requires inside { i < length (packed self.now) }
         ensures { IfOk result (λ r. IsTrue r ↔ Ends work.now (packed self.now) i) }
     {
+        if self.leads_to(work, i, to) {
+            return Ok(false);
+        }
         let state = self.state(alloc, work, i)?;
         Ok(is_complete(work, &state))
     }
@@ -38,8 +62,10 @@ impl Graph {
         ensures { IfOk result (λ v. AreFinals work.now (packed self.now) (length (packed self.now)) v.items) }
     {
         let mut finals = Vec::new(alloc);
+        let mut to = 1;
         for i in 0..self.len() {
-            let ends = self.is_final(alloc, work, i)?;
+            let ends = self.is_final(alloc, work, i, to)?;
+            to = self.first_after(i, to);
             note(&mut finals, i, ends)?;
         }
         Ok(finals)

@@ -11,6 +11,7 @@ mod judging;
 mod laws;
 mod packing;
 mod questions;
+mod room;
 mod store;
 mod turning;
 mod witnesses;

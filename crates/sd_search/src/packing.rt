@@ -1,25 +1,20 @@
 //! States as bytes: with its rank for each key, a state has the same bytes as each other whose keys have the same order.
 
-ghost use Rattle.std.specs.Prelude.{◌≡◌, [], ◌++◌, IfOk, OnOk};
+ghost use Rattle.std.specs.Prelude.{◌≡◌, IfOk, OnOk};
 ghost use Rattle.sd_encoding.specs.Encoding.{IsHeld, encoded};
+ghost use Rattle.sd_encoding.specs.Ranks.{ranked};
 ghost use Rattle.sd_state.specs.declared.states.State.{State as StateOf};
 
 use sd_encoding::{decode, encode};
 use sd_state::State;
 use std::alloc::{AllocError, Global};
 
-/// The bytes for which there is room from the first (this project's own): most states of a search have fewer.
-const FIRST_ROOM: usize = 512;
-
-/// The bytes of a state, with no room beyond them.
-pub(crate) fn pack(alloc: Global, state: &State) -> Result<Vec<u8>, AllocError>
-    ensures bytes { IfOk result (λ bytes. bytes.items ≡ encoded state.now) }
-    ensures held { OnOk result (IsHeld state.now) }
+/// The bytes of a state with its rank for each key, in the place of those of `room`.
+pub(crate) fn pack(state: &State, room: Vec<u8>) -> Result<Vec<u8>, AllocError>
+    ensures bytes { IfOk result (λ bytes. bytes.items ≡ encoded (ranked state.now)) }
+    ensures held { OnOk result (IsHeld (ranked state.now)) }
 {
-    let mut bytes = Vec::with_capacity(alloc, FIRST_ROOM)?;
-    encode(alloc, state, &mut bytes)?;
-    bytes.shrink_to_fit();
-    Ok(bytes)
+    encode(state, room)
 }
 
 /// The state that has these bytes.

@@ -7,12 +7,10 @@ ghost use Rattle.sd_state.specs.declared.states.State.{State as StateOf};
 ghost use Rattle.sd_search.specs.Graphs.{Gathers, IsAt, packed};
 ghost use Rattle.sd_search.specs.Turns.{IsTurnOf, LeadsTo};
 
-use crate::copying::copied_state;
 use crate::graph::Graph;
-use crate::packing::pack;
+use crate::room::Room;
 use crate::store::index_of;
-use sd_encoding::rank;
-use sd_replay::{apply, serial_next};
+use sd_replay::serial_next;
 use sd_state::State;
 use sd_types::{CpuId, Event, Work};
 use std::alloc::{AllocError, Global};
@@ -41,11 +39,9 @@ impl Graph {
         requires makes { next work.now from.now c (serial_hints work.now from.now c) ≡ Some event }
         ensures { IfOk result (LeadsTo work.now (packed self.now) from.now c event) }
     {
-        let mut state = copied_state(alloc, from)?;
-        apply(work, &mut state, 0, c, event);
-        rank(alloc, &mut state)?;
-        let bytes = pack(alloc, &state)?;
-        match index_of(&self.states, bytes.as_slice()) {
+        let mut room = Room::new(alloc);
+        room.take_turn(alloc, work, from, c, event)?;
+        match index_of(&self.states, &room.bytes) {
             Some(j) => Ok(j),
             None => unreachable!(),
         }

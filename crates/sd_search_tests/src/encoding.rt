@@ -1,6 +1,6 @@
 //! Numbers as bytes, and a state, that were worked out by hand.
 
-use sd_encoding::{decode, encode, rank, read_numbers, write_numbers};
+use sd_encoding::{Writer, decode, encode, read_numbers};
 use std::alloc::{AllocError, Global};
 use std::process::Abort;
 
@@ -29,10 +29,18 @@ const NOT_NUMBERS: [&[u8]; 2] = [
     ],
 ];
 
+/// The bytes of the numbers.
+fn bytes_of(alloc: Global, numbers: &[u64]) -> Result<Vec<u8>, AllocError> {
+    let mut writer = Writer::new(Vec::new(alloc));
+    for number in numbers {
+        writer.push(*number)?;
+    }
+    writer.finish()
+}
+
 /// The numbers have these bytes.
 fn have_bytes(alloc: Global, numbers: &[u64], bytes: &[u8]) -> Result<bool, AllocError> {
-    let mut written = Vec::new(alloc);
-    write_numbers(numbers, &mut written)?;
+    let written = bytes_of(alloc, numbers)?;
     Ok(written.as_slice() == bytes)
 }
 
@@ -98,42 +106,42 @@ const STATE: [u64; 60] = [
 /// Where keys stand, and their ranks as they are written.
 const RANKS: [(usize, u64); 3] = [(23, 0), (39, 4), (51, 2)];
 
-/// The bytes of the state that the bytes spell, with ranks for keys if that is wanted, and none where they spell no state.
-fn put_again(
-    alloc: Global,
-    bytes: &[u8],
-    ranks: bool,
-    again: &mut Vec<u8>,
-) -> Result<(), AllocError> {
-    if let Some(mut state) = decode(alloc, bytes)? {
-        if ranks {
-            rank(alloc, &mut state)?;
+/// The numbers of the state with ranks for keys.
+fn ranked_numbers(alloc: Global) -> Result<Vec<u64>, AllocError> {
+    let mut numbers = Vec::from_slice(alloc, &STATE)?;
+    for (at, number) in &RANKS {
+        if let Some(key) = numbers.get_mut(*at) {
+            *key = *number;
         }
-        encode(alloc, &state, again)?;
     }
-    Ok(())
+    Ok(numbers)
 }
 
-/// The bytes spell a state whose bytes they are.
-fn is_read_back(alloc: Global, bytes: &[u8]) -> Result<bool, AllocError> {
-    let mut again = Vec::new(alloc);
-    put_again(alloc, bytes, false, &mut again)?;
-    Ok(again.as_slice() == bytes)
+/// The bytes of the state that the bytes spell, with ranks for keys, and none where they spell no state.
+fn put_again(alloc: Global, bytes: &[u8]) -> Result<Vec<u8>, AllocError> {
+    match decode(alloc, bytes)? {
+        Some(state) => encode(&state, Vec::new(alloc)),
+        None => Ok(Vec::new(alloc)),
+    }
+}
+
+/// The bytes spell a state which has those bytes with ranks for keys.
+fn becomes(alloc: Global, bytes: &[u8], ranked: &[u8]) -> Result<bool, AllocError> {
+    let again = put_again(alloc, bytes)?;
+    Ok(again.as_slice() == ranked)
 }
 
 /// The bytes spell no state.
 fn is_no_state(alloc: Global, bytes: &[u8]) -> Result<bool, AllocError> {
-    let mut again = Vec::new(alloc);
-    put_again(alloc, bytes, false, &mut again)?;
+    let again = put_again(alloc, bytes)?;
     Ok(again.is_empty())
 }
 
-/// The bytes of the state are read back, and without the last of them they spell none.
+/// The bytes of the state with ranks are read back, and without the last of them they spell none.
 fn is_written(alloc: Global) -> Result<bool, AllocError> {
-    let mut bytes = Vec::new(alloc);
-    write_numbers(&STATE, &mut bytes)?;
+    let bytes = bytes_of(alloc, &ranked_numbers(alloc)?)?;
     match bytes.as_slice() {
-        [short @ .., _last] => Ok(is_read_back(alloc, &bytes)? && is_no_state(alloc, short)?),
+        [short @ .., _last] => Ok(becomes(alloc, &bytes, &bytes)? && is_no_state(alloc, short)?),
         [] => Ok(false),
     }
 }
@@ -143,31 +151,10 @@ fn a_state_is_read_and_written(rt: HostRuntime) {
     judge(&rt, Judged::State);
 }
 
-/// The ranks stand where the keys stood.
-fn have_ranks(numbers: &[u64]) -> bool {
-    RANKS
-        .iter()
-        .all(|(at, number)| numbers.get(*at) == Some(number))
-}
-
-/// The bytes are numbers of which those are ranks.
-fn are_ranked(alloc: Global, bytes: &[u8]) -> Result<bool, AllocError> {
-    match read_numbers(alloc, bytes)? {
-        Some(numbers) => Ok(have_ranks(&numbers)),
-        None => Ok(false),
-    }
-}
-
-fn put_ranked(alloc: Global, again: &mut Vec<u8>) -> Result<(), AllocError> {
-    let mut bytes = Vec::new(alloc);
-    write_numbers(&STATE, &mut bytes)?;
-    put_again(alloc, &bytes, true, again)
-}
-
 fn is_ranked(alloc: Global) -> Result<bool, AllocError> {
-    let mut again = Vec::new(alloc);
-    put_ranked(alloc, &mut again)?;
-    are_ranked(alloc, &again)
+    let bytes = bytes_of(alloc, &STATE)?;
+    let ranked = bytes_of(alloc, &ranked_numbers(alloc)?)?;
+    becomes(alloc, &bytes, &ranked)
 }
 
 #[test]

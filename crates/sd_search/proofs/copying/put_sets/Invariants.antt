@@ -1,0 +1,8 @@
+use Rattle.std.proofs.Common.{◌≡◌, length, take}
+use Rattle.sd_search.proofs.copying.put_sets.Given as goal
+
+abbrev pub invariant-loop-i : goal.invariant-loop-i
+invariant-loop-i l = record {
+  front : take l.i l.sets ≡ take l.i l.from;
+  long : length l.sets ≡ length l.from;
+}
