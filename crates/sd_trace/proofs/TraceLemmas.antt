@@ -1,5 +1,5 @@
 -- Which bytes traces are made of.
-use Rattle.std.proofs.Common.{ℕ, ◌∷◌, [], List, length, Option, Some, None, refl}
+use Rattle.std.proofs.Common.{ℕ, eqb, ◌∷◌, [], List, length, Option, Some, None, refl}
 use Rattle.std.specs.Prelude.{codes, max}
 use Rattle.std.specs.List.{range_with_len}
 use Rattle.std.proofs.lemmas.List.Folds.{list_all-append}
@@ -24,14 +24,19 @@ use Rattle.sd_stretches.specs.declared.changes.Wakeup.{Wakeup}
 use Rattle.sd_stretches.specs.declared.histories.History.{History}
 use Rattle.sd_stretches.specs.declared.rows.Stretch.{Stretch}
 use Rattle.sd_stretches.specs.declared.spin_pieces.Track.TheVariants as track
+use Rattle.sd_holds.specs.declared.banding.Band.{Band}
+use Rattle.sd_holds.specs.declared.holdings.Hold.{Hold}
+use Rattle.sd_holds.specs.Bands.{bands, most_lanes}
+use Rattle.sd_holds.specs.Holds.{holds}
+use Rattle.sd_trace.specs.Holds.{given_argument, hold_arguments, hold_slice, taken_arguments}
 use Rattle.sd_stretches.specs.SpinPieces.{pieces}
 use Rattle.sd_stretches.specs.Plain.{is_text_byte, IsText}
-use Rattle.sd_stretches.proofs.TextLemmas.{flat-text, decimal-text, lock-text, thread-text, set-text, doing-text}
-use Rattle.sd_trace.specs.Words.{class_word, place_at, thread_number}
+use Rattle.sd_stretches.proofs.TextLemmas.{flat-text, either-text, decimal-text, lock-text, thread-text, set-text, doing-text}
+use Rattle.sd_trace.specs.Words.{class_word, hold_number, place_at, thread_number}
 use Rattle.sd_trace.specs.Slices.{about, class_argument, class_start, entry_arguments, length_of, priority_argument, run_name, run_slice, slice_kind, spin_words, state_slice, state_slices}
 use Rattle.sd_trace.specs.Flows.{arrow_end, arrow_from, arrow_start, end_kind, entry_argument, flow, hand_flow, load_argument, load_event, load_start, named, start_kind, track_at, wake_flow}
 use Rattle.sd_trace.specs.Marks.{assign_mark, bind_mark, bound_mark, bound_name, mark_at, mark_by, mark_kind, mark_text, set_mark}
-use Rattle.sd_trace.specs.Tracks.{all_tracks, cpu_name, cpu_part, cpu_track, name_end, name_start, own_part, thread_part, thread_track, threads_start, trace_start, track_order, track_start, trace_text}
+use Rattle.sd_trace.specs.Tracks.{all_holds, all_tracks, cpu_name, cpu_part, cpu_track, hold_track, holds_part, holds_start, name_end, name_start, own_holds, own_part, some_holds, thread_part, thread_track, threads_start, trace_start, track_order, track_start, trace_text}
 
 -- ---- slices
 
@@ -155,6 +160,37 @@ part-text : (w : Work) (h : History) (t : ℕ) → IsText (thread_part w h t)
 unfolding thread_part
 part-text w h t = own-text w t (pieces (track.Thread t) h w.limit)
 
+given-text : (o : Option ℕ) → IsText (given_argument o)
+given-text None = refl
+given-text (Some n) = simp (list_all-append is_text_byte, decimal-text)
+
+hold-text : (w : Work) (b : Band) → IsText (hold_slice w b)
+unfolding hold_slice hold_arguments taken_arguments slice_kind
+hold-text w b =
+    simp (list_all-append is_text_byte, lock-text w b.hold.lock.0, place-text, length-text, decimal-text, given-text b.hold.given)
+
+hold-track-text : (w : Work) (t lane : ℕ) → IsText (hold_track w t lane)
+unfolding hold_track track_start track_order name_start name_end
+hold-track-text w t lane = simp (list_all-append is_text_byte, decimal-text, thread-text w t)
+
+holds-part-text : (w : Work) (t : ℕ) (own : List Band) → IsText (holds_part w t own)
+holds-part-text w t own =
+    simp (
+      list_all-append is_text_byte,
+      flat-text (hold_track w t) (hold-track-text w t) (range_with_len 0 (most_lanes own)),
+      flat-text (hold_slice w) (hold-text w) own,
+    )
+
+own-holds-text : (w : Work) (hs : List Hold) (t : ℕ) → IsText (own_holds w hs t)
+own-holds-text w hs t = holds-part-text w t (bands t 0 w.limit hs)
+
+some-holds-text : (w : Work) (hs : List Hold) → IsText (some_holds w hs)
+unfolding some_holds holds_start
+some-holds-text w hs = simp (list_all-append is_text_byte, flat-text (own_holds w hs) (own-holds-text w hs) (range_with_len 0 (length w.threads)))
+
+holds-text : (w : Work) (hs : List Hold) → IsText (all_holds w hs)
+holds-text w hs = either-text (eqb (length hs) 0) [] (some_holds w hs) refl (some-holds-text w hs)
+
 tracks-text : (w : Work) (h : History) → IsText (all_tracks w h)
 unfolding all_tracks trace_start threads_start
 tracks-text w h =
@@ -162,6 +198,7 @@ tracks-text w h =
       list_all-append is_text_byte,
       flat-text (cpu_part w h) (cpu-part-text w h) (range_with_len 0 w.cpus),
       flat-text (thread_part w h) (part-text w h) (range_with_len 0 (length w.threads)),
+      holds-text w (holds w.limit h.happenings.items),
     )
 
 wake-text : (w : Work) (x : Wakeup) → IsText (wake_flow w x)

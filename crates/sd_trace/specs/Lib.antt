@@ -1,5 +1,6 @@
 pub mod Words
 pub mod Slices
+pub mod Holds
 pub mod Flows
 pub mod Marks
 pub mod Tracks

@@ -1,6 +1,6 @@
 -- The words of which events are made.
 -- Source: Trace Event Format (ts in microseconds, pid, tid); which process has which tracks is this project's own.
-use Rattle.std.specs.Prelude.{ℕ, ◌+◌, ◌*◌, ◌==◌, List, ◌++◌, codes, decimal, if◌then◌else◌}
+use Rattle.std.specs.Prelude.{ℕ, ◌+◌, ◌*◌, ◌==◌, min, List, ◌++◌, codes, decimal, if◌then◌else◌}
 use Rattle.sd_types.specs.declared.classes.Class.{Class}
 use Rattle.sd_types.specs.declared.classes.Class.TheVariants.{Ts, Fx, Sys, Rt}
 use Rattle.sd_types.specs.declared.works.Work.{Work}
@@ -18,7 +18,12 @@ cpu_number c = c + 11
 abbrev pub thread_number : ℕ → ℕ
 thread_number t = t + 101
 
--- the time, the process (1 has the processors, 2 the threads) and the track
+-- The tracks of what a thread holds, one for each lane, behind those of the at most 2,048 threads: locks that a thread holds at once
+-- need not be given up in turn, so that their slices would cross on one track.
+abbrev pub hold_number : ℕ → ℕ → ℕ
+hold_number t lane = 8 * t + min lane 7 + 3001
+
+-- the time, the process (1 has the processors, 2 the threads, 3 what they hold) and the track
 unfoldable pub place_at : Work → ℕ → ℕ → ℕ → List ℕ
 place_at w tick process track = (codes ",\"ts\":" ++ decimal (micros w tick)) ++ (codes ",\"pid\":" ++ decimal process) ++ (codes ",\"tid\":" ++ decimal track)
 

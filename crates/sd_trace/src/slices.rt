@@ -50,17 +50,22 @@ fn put_about(x: &Stretch, out: &mut Vec<u8>) -> Result<(), AllocError>
     put_entries(x.first, x.last, out)
 }
 
-// How long a slice is.
+/// How long a slice is.
 #[tactic(auto, unfolding(crate::specs::Slices::length_of))]
-fn put_length(work: &Work, from: u32, to: u32, out: &mut Vec<u8>) -> Result<(), AllocError>
+pub(crate) fn put_length(
+    work: &Work,
+    from: u32,
+    to: u32,
+    out: &mut Vec<u8>,
+) -> Result<(), AllocError>
     ensures { OnOk result (out.new.items ≡ out.old.items ++ length_of work.now from to) }
 {
     put_counted(b",\"dur\":", micros(work, to.saturating_sub(from)), out)
 }
 
-// The kind of a slice.
+/// The kind of a slice.
 #[tactic(auto, unfolding(crate::specs::Slices::slice_kind))]
-fn put_slice_kind(category: &[u8], out: &mut Vec<u8>) -> Result<(), AllocError>
+pub(crate) fn put_slice_kind(category: &[u8], out: &mut Vec<u8>) -> Result<(), AllocError>
     ensures { OnOk result (out.new.items ≡ out.old.items ++ slice_kind category.now) }
 {
     out.extend_from_slice(b"\",\"cat\":\"")?;

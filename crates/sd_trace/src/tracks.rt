@@ -2,12 +2,15 @@
 
 ghost use Rattle.std.specs.Prelude.{◌≡◌, ◌++◌, IfOk, OnOk, codes, decimal, flat_map, length};
 ghost use Rattle.std.specs.List.{range_with_len};
-ghost use Rattle.sd_trace.specs.Tracks.{all_tracks, cpu_name, cpu_part, cpu_track, name_end, name_start, thread_part, thread_track, trace_start, track_order, track_start, trace_text, threads_start};
+ghost use Rattle.sd_holds.specs.Bands.{most_lanes};
+ghost use Rattle.sd_trace.specs.Tracks.{all_holds, all_tracks, cpu_name, cpu_part, cpu_track, hold_track, holds_part, holds_start, name_end, name_start, own_holds, some_holds, thread_part, thread_track, trace_start, track_order, track_start, trace_text, threads_start};
 
 use crate::flows::{put_hand_overs, put_loads, put_wakeups};
+use crate::held::put_holds;
 use crate::marks::put_marks;
 use crate::slices::{put_run_slices, put_states};
-use crate::words::{cpu_number, thread_number};
+use crate::words::{cpu_number, hold_number, thread_number};
+use sd_holds::{Band, Hold, bands, holds, most_lanes};
 use sd_stretches::{ByThread, Track, pieces, put_counted, thread_name};
 use sd_types::Work;
 use std::alloc::{AllocError, Global};
@@ -142,6 +145,101 @@ fn put_threads(
     Ok(())
 }
 
+#[tactic(auto, unfolding(crate::specs::Tracks::holds_start))]
+fn put_holds_start(out: &mut Vec<u8>) -> Result<(), AllocError>
+    ensures { OnOk result (out.new.items ≡ out.old.items ++ holds_start) }
+{
+    out.extend_from_slice(
+        b",\n{\"name\":\"process_name\",\"ph\":\"M\",\"pid\":3,\"args\":{\"name\":\"locks held\"}}",
+    )
+}
+
+// The track of a lane of what a thread holds.
+#[tactic(auto, unfolding(crate::specs::Tracks::hold_track))]
+fn put_hold_track(work: &Work, t: u16, lane: usize, out: &mut Vec<u8>) -> Result<(), AllocError>
+    ensures { OnOk result (out.new.items ≡ out.old.items ++ hold_track work.now t lane) }
+{
+    put_track_start(3, hold_number(t, lane), out)?;
+    put_name_start(out)?;
+    out.extend_from_slice(thread_name(work, usize::from(t)))?;
+    out.extend_from_slice(b" holds")?;
+    put_name_end(out)?;
+    put_track_order(3, hold_number(t, lane), out)
+}
+
+fn put_hold_tracks(work: &Work, t: u16, lanes: usize, out: &mut Vec<u8>) -> Result<(), AllocError>
+    ensures { OnOk result (out.new.items ≡ out.old.items ++ flat_map (hold_track work.now t) (range_with_len 0 lanes)) }
+{
+    for lane in 0..lanes {
+        put_hold_track(work, t, lane, out)?;
+    }
+    Ok(())
+}
+
+// The tracks of what a thread holds, with a slice for each hold.
+fn put_holds_part(work: &Work, t: u16, own: &[Band], out: &mut Vec<u8>) -> Result<(), AllocError>
+    ensures { OnOk result (out.new.items ≡ out.old.items ++ holds_part work.now t own.now) }
+{
+    put_hold_tracks(work, t, usize::from(most_lanes(own)), out)?;
+    put_holds(work, own, out)
+}
+
+fn put_own_holds(
+    alloc: Global,
+    work: &Work,
+    all: &[Hold],
+    t: u16,
+    out: &mut Vec<u8>,
+) -> Result<(), AllocError>
+    ensures { OnOk result (out.new.items ≡ out.old.items ++ own_holds work.now all.now t) }
+{
+    let own = bands(alloc, all, usize::from(t), 0, work.limit)?;
+    put_holds_part(work, t, &own, out)
+}
+
+fn put_each_holds(
+    alloc: Global,
+    work: &Work,
+    all: &[Hold],
+    out: &mut Vec<u8>,
+) -> Result<(), AllocError>
+    ensures { OnOk result (out.new.items ≡ out.old.items ++ flat_map (own_holds work.now all.now) (range_with_len 0 (length work.now.threads))) }
+{
+    for t in 0..work.threads.items().len() {
+        put_own_holds(alloc, work, all, t as u16, out)?;
+    }
+    Ok(())
+}
+
+// The tracks of what all threads hold.
+#[tactic(auto, unfolding(crate::specs::Tracks::some_holds))]
+fn put_some_holds(
+    alloc: Global,
+    work: &Work,
+    all: &[Hold],
+    out: &mut Vec<u8>,
+) -> Result<(), AllocError>
+    ensures { OnOk result (out.new.items ≡ out.old.items ++ some_holds work.now all.now) }
+{
+    put_holds_start(out)?;
+    put_each_holds(alloc, work, all, out)
+}
+
+// None where no lock is taken.
+fn put_all_holds(
+    alloc: Global,
+    work: &Work,
+    all: &[Hold],
+    out: &mut Vec<u8>,
+) -> Result<(), AllocError>
+    ensures { OnOk result (out.new.items ≡ out.old.items ++ all_holds work.now all.now) }
+{
+    if all.is_empty() {
+        return Ok(());
+    }
+    put_some_holds(alloc, work, all, out)
+}
+
 #[tactic(auto, unfolding(crate::specs::Tracks::trace_start))]
 fn put_trace_start(out: &mut Vec<u8>) -> Result<(), AllocError>
     ensures { OnOk result (out.new.items ≡ out.old.items ++ trace_start) }
@@ -173,7 +271,9 @@ fn put_all_tracks(
     put_trace_start(out)?;
     put_threads_start(out)?;
     put_cpus(alloc, work, history, out)?;
-    put_threads(alloc, work, history, out)
+    put_threads(alloc, work, history, out)?;
+    let all = holds(alloc, &history.history.happenings, work.limit)?;
+    put_all_holds(alloc, work, &all, out)
 }
 
 /// The trace of a run of the workload, of which this is the history.

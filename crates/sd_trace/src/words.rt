@@ -1,7 +1,7 @@
 //! The words of which events are made. Each function appends a text. Where memory runs out it may have appended a part of it.
 
 ghost use Rattle.std.specs.Prelude.{◌≡◌, ◌++◌, OnOk};
-ghost use Rattle.sd_trace.specs.Words.{class_word, cpu_number, micros, place_at, thread_number};
+ghost use Rattle.sd_trace.specs.Words.{class_word, cpu_number, hold_number, micros, place_at, thread_number};
 
 use sd_stretches::put_counted;
 use sd_types::{Class, Work};
@@ -32,7 +32,14 @@ pub(crate) fn thread_number(t: u16) -> u64
     u64::from(t) + 101
 }
 
-/// The time, the process (1 has the processors, 2 the threads) and the track.
+/// The number of the track of a lane of what a thread holds, which none of the at most 2,048 threads has.
+pub(crate) fn hold_number(t: u16, lane: usize) -> u64
+    ensures { result ≡ hold_number t lane }
+{
+    8 * u64::from(t) + lane.min(7) as u64 + 3001
+}
+
+/// The time, the process (1 has the processors, 2 the threads, 3 what they hold) and the track.
 #[tactic(auto, unfolding(crate::specs::Words::place_at))]
 pub(crate) fn put_place(
     work: &Work,
