@@ -2,10 +2,11 @@
 
 use crate::accounts::{wrong_places, wrong_run};
 use crate::audits::wrong_verdict;
+use crate::deadlines::wrong_deadlines;
 use crate::drawings::{wrong_drawing, wrong_story};
 use crate::reports::{wrong_jobs, wrong_report};
 use crate::sentences::{Half, wrong_sentence};
-use crate::{accounts, audits, drawings, reports, sentences};
+use crate::{accounts, audits, deadlines, drawings, reports, sentences};
 use arrayvec::ArrayVec;
 use sd_state::{CpuState, LockState, Place, State, ThreadState};
 use sd_types::{ClassState, CpuId, List, SysState, ThreadBody, Work};
@@ -23,6 +24,7 @@ pub enum Judged {
     Stories,
     Report,
     Jobs,
+    Deadlines,
     EarlySentences,
     LateSentences,
 }
@@ -35,6 +37,7 @@ fn workload_of(judged: Judged) -> &'static [u8] {
         Judged::Drawings | Judged::Stories => drawings::WORKLOAD,
         Judged::Report => reports::WORKLOAD,
         Judged::Jobs => reports::JOBS_WORKLOAD,
+        Judged::Deadlines => deadlines::WORKLOAD,
         Judged::EarlySentences | Judged::LateSentences => sentences::NAMED,
     }
 }
@@ -53,6 +56,7 @@ fn wrong_in(
         Judged::Stories => Ok(wrong_story(alloc, work)),
         Judged::Report => wrong_report(alloc, work),
         Judged::Jobs => wrong_jobs(alloc, work),
+        Judged::Deadlines => wrong_deadlines(alloc, work),
         Judged::EarlySentences => wrong_sentence(alloc, work, Half::Early),
         Judged::LateSentences => wrong_sentence(alloc, work, Half::Late),
     }

@@ -9,6 +9,8 @@ mod audits;
 #[cfg(test)]
 mod blocking;
 #[cfg(test)]
+mod deadlines;
+#[cfg(test)]
 mod drawings;
 #[cfg(test)]
 mod given;

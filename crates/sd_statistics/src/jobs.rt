@@ -101,7 +101,7 @@ fn push_told(t: usize, k: u16, x: &Happening, told: &mut Vec<Happening>) -> Resu
 /// The entries that tell the jobs of thread `t` by semaphore `k`: those of the semaphore, and the ticks, the spins and the end of
 /// the thread.
 #[tactic(auto, unfolding(crate::specs::Jobs::told_entries))]
-pub(crate) fn told_entries(
+pub fn told_entries(
     alloc: Global,
     t: usize,
     k: u16,

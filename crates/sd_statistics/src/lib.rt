@@ -19,10 +19,11 @@ mod threads;
 
 pub use activities::Activity;
 pub use cpus::{Deed, cpu_rows};
+pub use jobs::{Job, Point, Release, told_entries};
 pub use locks::lock_rows;
 pub use rows::{Figures, Measure, Row, Subject};
 pub use slice_laws::{others_keep_running, running_ticks_are_accounted, slices_follow_in_time};
-pub use spans::{Span, Summary, ticks_of};
+pub use spans::{Span, Summary, summary_of, ticks_of};
 pub use statistics_laws::{deeds_are_counts, the_longest_is_longest, ticks_add_up};
-pub use tasks::task_rows;
+pub use tasks::{kind_of, responses, task_jobs, task_rows};
 pub use threads::thread_rows;

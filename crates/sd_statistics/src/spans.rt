@@ -72,8 +72,9 @@ fn total(spans: &[Span]) -> u64
     ticks
 }
 
+/// The number of the spans, their ticks, and the first of the longest.
 #[tactic(auto, unfolding(crate::specs::Spans::summary_of))]
-pub(crate) fn summary_of(spans: &[Span]) -> Summary
+pub fn summary_of(spans: &[Span]) -> Summary
     ensures { result ≡ summary_of spans.now }
 {
     Summary {

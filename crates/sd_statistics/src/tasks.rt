@@ -30,9 +30,9 @@ fn push_response(t: usize, x: &Job, out: &mut Vec<Span>) -> Result<(), AllocErro
     Ok(())
 }
 
-// The responses of the jobs that are complete.
+/// The responses of the jobs of thread `t` that are complete.
 #[tactic(auto, unfolding(crate::specs::Tasks::responses))]
-fn responses(alloc: Global, t: usize, jobs: &[Job]) -> Result<Vec<Span>, AllocError>
+pub fn responses(alloc: Global, t: usize, jobs: &[Job]) -> Result<Vec<Span>, AllocError>
     ensures { IfOk result (λ v. v.items ≡ responses t jobs.now) }
 {
     let mut found = Vec::new(alloc);
@@ -96,8 +96,8 @@ fn push_job_rows(
     push_unfinished_row(k, t, jobs, out)
 }
 
-// The jobs of the thread by the semaphore, which begins with so many units.
-fn task_jobs(
+/// The jobs of thread `t` by semaphore `k`, which begins with `count` units.
+pub fn task_jobs(
     alloc: Global,
     work: &Work,
     history: &History,
@@ -151,7 +151,8 @@ fn push_sema(
     Ok(())
 }
 
-fn kind_of(work: &Work, k: u16) -> Option<ChanKind>
+/// The kind of the channel with this number, where there is one.
+pub fn kind_of(work: &Work, k: u16) -> Option<ChanKind>
     ensures { result ≡ kind_of work.now k }
 {
     match work.chans.items().get(k as usize) {

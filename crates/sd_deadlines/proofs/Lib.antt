@@ -1,0 +1,2 @@
+pub mod DelayerLemmas
+pub mod TaskTableLemmas
