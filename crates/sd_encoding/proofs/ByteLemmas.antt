@@ -1,5 +1,5 @@
 -- Numbers as bytes and back.
-use Rattle.std.proofs.Common.{◌≡◌, ℕ, zero, suc, ◌+◌, ◌-◌, ◌*◌, ◌/◌, ◌%◌, ◌^◌, ◌<◌, ◌≤◌, Bool, true, false, List, [], ◌∷◌, ◌++◌, length, get_or, drop, Option, Some, None, refl, sym, ap, ◌∙◌, append_assoc, arith, inl, inr, cond}
+use Rattle.std.proofs.Common.{◌≡◌, ℕ, zero, suc, ◌+◌, ◌-◌, ◌*◌, ◌/◌, ◌%◌, ◌^◌, ◌<◌, ◌≤◌, Bool, true, false, List, [], ◌∷◌, ◌++◌, length, get_or, drop, Option, Some, None, refl, sym, ap, ◌∙◌, arith, inl, inr, cond}
 use Rattle.std.specs.Prelude.{nat_lt, reverse, ◌&&◌, ◌==◌}
 use Rattle.std.specs.List.{AllByRecursion}
 use Rattle.std.proofs.Math.Seq.{drop-cons}
@@ -88,15 +88,6 @@ pub numbers_again : (ns : List ℕ) → AllByRecursion (λ n. n < 2 ^ 64) ns →
 unfolding bytes_of numbers_in with_zeros
 numbers_again [] h = refl
 numbers_again (n ∷ ns) h = from_again n 0 ns h.0 (omega arith) h.1
-
--- ---- writing
-
-pub byte_more : (into new whole : List ℕ) (rest z : ℕ) → 32 ≤ rest → new ≡ into ++ (rest % 32 + 224) ∷ [] → into ++ number_bytes rest z ≡ whole → new ++ number_bytes (rest / 32) z ≡ whole
-byte_more into new whole rest z le e so_far =
-    ap (λ (xs : List ℕ). xs ++ number_bytes (rest / 32) z) e ∙ append_assoc into ((rest % 32 + 224) ∷ []) (number_bytes (rest / 32) z) ∙ ap (λ (xs : List ℕ). into ++ xs) (sym (first_byte rest z le)) ∙ so_far
-
-pub byte_last : (into new whole : List ℕ) (rest z : ℕ) → rest < 32 → new ≡ into ++ (rest + 32 * z) ∷ [] → into ++ number_bytes rest z ≡ whole → new ≡ whole
-byte_last into new whole rest z lt e so_far = e ∙ ap (λ (xs : List ℕ). into ++ xs) (sym (last_byte rest z lt)) ∙ so_far
 
 -- ---- reading
 

@@ -1,16 +1,9 @@
 -- Entries at locks, channels and sets, of states whose keys have the same order.
-use Rattle.std.proofs.Common.{◌≡◌, ℕ, ◌+◌, ◌-◌, ◌==◌, Bool, true, false, ℤ, Option, Some, None, is_none, is_some, refl, sym, ap, ◌∙◌, subst}
+use Rattle.std.proofs.Common.{◌≡◌, ℕ, ◌+◌, ◌-◌, ◌==◌, Bool, true, false, ℤ, Option, Some, None, is_some, refl, sym, ap, ◌∙◌, subst}
 use Rattle.std.specs.Prelude.{if◌then◌else◌, nat_le, nat_lt}
-use Rattle.sd_types.specs.declared.numbers.ChanId.{ChanId}
 use Rattle.sd_types.specs.declared.numbers.CpuId.{CpuId}
 use Rattle.sd_types.specs.declared.numbers.LockId.{LockId}
-use Rattle.sd_types.specs.declared.numbers.ThreadId.{ThreadId}
-use Rattle.sd_types.specs.declared.numbers.SetId.{SetId}
 use Rattle.sd_types.specs.declared.numbers.Side.TheVariants.{Writer, Reader}
-use Rattle.sd_types.specs.declared.events.AssignAnswer.{AssignAnswer}
-use Rattle.sd_types.specs.declared.events.AssignAnswer.TheVariants as assign
-use Rattle.sd_types.specs.declared.events.BindAnswer.{BindAnswer}
-use Rattle.sd_types.specs.declared.events.BindAnswer.TheVariants as bind_answer
 use Rattle.sd_types.specs.declared.events.Duty.{Duty}
 use Rattle.sd_types.specs.declared.events.Duty.TheVariants as duty
 use Rattle.sd_types.specs.declared.events.Put.{Put}
@@ -22,22 +15,18 @@ use Rattle.sd_state.specs.declared.states.Place.{Place}
 use Rattle.sd_state.specs.declared.states.Place.TheVariants.{Running}
 use Rattle.sd_state.specs.declared.states.State.{State}
 use Rattle.sd_state.specs.States.{cpu_of, thread_of}
-use Rattle.sd_machine.specs.Changes.{back_key, bind, set_duty, set_kernel_mark}
-use Rattle.sd_machine.specs.Conditions.{cv_waited, sema_counted, sema_handed, sema_taken}
-use Rattle.sd_machine.specs.Locking.{after_owner, after_reader, after_writer, exited, free_or_passed, granted, granted_to_reader, granted_to_writer, kind_of, one_more, one_reader_more, others_waiting, owned, passed, passed_on, read, release_from, released, unblocked, unblocked_on, writer_first}
-use Rattle.sd_machine.specs.SetChanges.{assigned, called_back, cleared, joined, moved, pbound, rebound}
-use Rattle.sd_machine.specs.Sleeping.{woke, woke_all, woken}
-use Rattle.sd_machine.specs.Threads.{best_sleeper, best_waiter, count_of, has_waiters, lock_of, priority_of, runner, thread_id, with_count, with_lock}
-use Rattle.sd_machine.specs.Walking.{walk_ended}
+use Rattle.sd_machine.specs.Changes.{bind, set_duty, set_kernel_mark}
+use Rattle.sd_machine.specs.Locking.{after_owner, after_reader, after_writer, free_or_passed, granted, granted_to_reader, granted_to_writer, kind_of, one_reader_more, others_waiting, passed, passed_on, release_from, unblocked_on, writer_first}
+use Rattle.sd_machine.specs.SetChanges.{called_back, cleared, rebound}
+use Rattle.sd_machine.specs.Threads.{best_waiter, has_waiters, lock_of, priority_of, thread_id, with_count, with_lock}
 use Rattle.sd_encoding.specs.Order.{bare_duty, key_in}
 use Rattle.sd_encoding.specs.Order.{key_at as key_of_place}
-use Rattle.sd_encoding.proofs.AlikeLemmas.{body_same, duty_with, key_or_zero, place_with}
-use Rattle.sd_encoding.proofs.ChangeLemmas.{bind_alike, close_alike, duty_step, join_alike, kernel_alike, lock_alike, rouse_alike, tokens_alike, unbind_alike}
-use Rattle.sd_encoding.proofs.PutLemmas.{finish_alike, hold_alike, if_alike, let_go_alike, number_alike, priority_same, put_alike, put_where_alike, remark_alike, woken_alike}
+use Rattle.sd_encoding.proofs.AlikeLemmas.{duty_with, key_or_zero, place_with}
+use Rattle.sd_encoding.proofs.ChangeLemmas.{bind_alike, duty_step, kernel_alike, lock_alike, tokens_alike, unbind_alike}
+use Rattle.sd_encoding.proofs.PutLemmas.{finish_alike, hold_alike, if_alike, number_alike, priority_same, woken_alike}
 use Rattle.sd_encoding.proofs.SeekLemmas.{duty_is, place_is}
 use Rattle.sd_encoding.proofs.SourceLemmas.{AreAlike, Gone}
-use Rattle.sd_encoding.proofs.StepLemmas.{alike_later}
-use Rattle.sd_encoding.proofs.TellLemmas.{best_sleeper_same, best_waiter_same, count_of_same, has_waiters_same, lock_same, others_same, runner_same}
+use Rattle.sd_encoding.proofs.TellLemmas.{best_waiter_same, has_waiters_same, lock_same, others_same}
 
 module _ (n m : ℕ) (x s : State) (h : AreAlike n m x s) where
   pub lock_given : (l : ℕ) (a b : LockState) → a ≡ b → AreAlike n m (with_lock x l a) (with_lock s l b)

@@ -1,6 +1,5 @@
 -- Entries that tick, dispatch, and send threads from their processors, of states whose keys have the same order.
 use Rattle.std.proofs.Common.{◌≡◌, ℕ, ◌+◌, ◌<◌, ◌==◌, Bool, length, refl, sym, ap, subst, get_or-set_same}
-use Rattle.sd_types.specs.declared.numbers.ChanId.{ChanId}
 use Rattle.sd_types.specs.declared.numbers.CpuId.{CpuId}
 use Rattle.sd_types.specs.declared.numbers.LockId.{LockId}
 use Rattle.sd_types.specs.declared.numbers.Side.{Side}
@@ -18,21 +17,20 @@ use Rattle.sd_state.specs.declared.states.State.{State}
 use Rattle.sd_state.specs.States.{cpu_of, no_thread, thread_of, eff_of}
 use Rattle.sd_state.specs.Operations.{op_of}
 use Rattle.sd_machine.specs.Bodies.{aged_class, departed, ticked_class}
-use Rattle.sd_machine.specs.Changes.{back_key, clear_marks, count_tick, leave, priority_or_zero, put, run_tick, send_back, set_class, set_duty, set_mark}
-use Rattle.sd_machine.specs.Dispatching.{charge, class_counts, dispatched, done, idled, is_rivalled, preempted, sent_away, spun, stolen, ticked, yielded}
+use Rattle.sd_machine.specs.Changes.{back_key, leave, priority_or_zero, put, send_back, set_class, set_duty, set_mark}
+use Rattle.sd_machine.specs.Dispatching.{charge, class_counts, is_rivalled, preempted, sent_away}
 use Rattle.sd_machine.specs.Locking.{blocked, side_of}
 use Rattle.sd_machine.specs.Prioritising.{aged, lifted}
-use Rattle.sd_machine.specs.Sleeping.{fallen_asleep, nap_ticks, napped}
 use Rattle.sd_machine.specs.Threads.{best_ready, priority_of}
 use Rattle.sd_store.specs.declared.spots.Destination.TheVariants as to
 use Rattle.sd_encoding.specs.Order.{OfThread}
 use Rattle.sd_encoding.specs.Order.{key_at as key_of_place}
 use Rattle.sd_encoding.proofs.AlikeLemmas.{body_same, threads_many}
-use Rattle.sd_encoding.proofs.ChangeLemmas.{clear_alike, count_alike, duty_step, leave_alike, run_alike}
-use Rattle.sd_encoding.proofs.PutLemmas.{class_alike, finish_alike, if_alike, leave_given, mark_given, mark_over_alike, put_alike, ready_same, requeue_alike, run_tick_alike, send_back_alike}
+use Rattle.sd_encoding.proofs.ChangeLemmas.{duty_step, leave_alike}
+use Rattle.sd_encoding.proofs.PutLemmas.{class_alike, if_alike, leave_given, mark_given, mark_over_alike, put_alike, ready_same, requeue_alike, send_back_alike}
 use Rattle.sd_encoding.proofs.SourceLemmas.{AreAlike, From, Gone}
 use Rattle.sd_encoding.proofs.StepLemmas.{alike_later}
-use Rattle.sd_encoding.proofs.TellLemmas.{count_same, eff_same}
+use Rattle.sd_encoding.proofs.TellLemmas.{eff_same}
 
 module _ (n m : ℕ) (x s : State) (h : AreAlike n m x s) where
   charge_alike : (c t : ℕ) (a b : Bool) → a ≡ b → AreAlike n m (charge x c t a) (charge s c t b)

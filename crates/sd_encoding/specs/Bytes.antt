@@ -1,7 +1,7 @@
 -- Numbers as bytes. Each byte has five bits of a number, from the lowest to the highest. The three bits above them say that the
 -- number ends there, with how many zeros stand behind it, from none to 6; or they are 7, and the number goes on in the next byte.
 -- This project's own: LEB128 with a length for the runs of zeros.
-use Rattle.std.specs.Prelude.{◌≡◌, ℕ, zero, suc, ◌+◌, ◌-◌, ◌*◌, ◌/◌, ◌%◌, ◌^◌, ◌&&◌, ◌==◌, List, [], ◌∷◌, ◌++◌, Option, Some, None, nat_lt, if◌then◌else◌}
+use Rattle.std.specs.Prelude.{ℕ, zero, suc, ◌+◌, ◌-◌, ◌*◌, ◌/◌, ◌%◌, ◌^◌, ◌&&◌, ◌==◌, List, [], ◌∷◌, ◌++◌, Option, Some, None, nat_lt, if◌then◌else◌}
 use Rattle.sd_encoding.specs.Reading.{◌>>=◌}
 
 -- a number and so many zeros behind it, in at most one byte more than the first number says

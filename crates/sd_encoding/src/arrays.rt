@@ -44,6 +44,7 @@ impl Packed for ArrayVec<LockId, 8> {
 
     ghost again = { array_again 8 lock_id FitsLockId lock_id_at lock_id_again };
 
+    #[inline(always)]
     fn write(&self, into: &mut Writer) -> Result<(), AllocError> {
         write_items(self.as_slice(), into)
     }
@@ -73,6 +74,7 @@ impl Packed for ArrayVec<(LockId, u8), 8> {
 
     ghost again = { array_again 8 inherited FitsInherited (pair_at lock_id_at (below_at (2 ^ 8))) inherited_again };
 
+    #[inline(always)]
     fn write(&self, into: &mut Writer) -> Result<(), AllocError> {
         write_items(self.as_slice(), into)
     }
@@ -102,6 +104,7 @@ impl Packed for ArrayVec<CpuId, 64> {
 
     ghost again = { array_again 64 cpu_id FitsCpuId cpu_id_at cpu_id_again };
 
+    #[inline(always)]
     fn write(&self, into: &mut Writer) -> Result<(), AllocError> {
         write_items(self.as_slice(), into)
     }

@@ -1,6 +1,6 @@
 //! Bytes that are written one after another over others, so that no byte takes memory where others stood before.
 
-ghost use Rattle.std.specs.Prelude.{◌≡◌, ◌++◌, ◌∷◌, [], OnOk};
+ghost use Rattle.std.specs.Prelude.{◌≡◌, ◌++◌, ◌∷◌, [], OnErr, OnOk, if◌then◌else◌, is_ok};
 
 use std::alloc::AllocError;
 use std::marker::Model;
@@ -22,6 +22,15 @@ impl Model for Buffer {
     ghost invariant = { λ b. b.len ≤ length b.held.items };
 }
 
+/// Writes a byte behind all that stand in the memory.
+#[inline(never)]
+fn grow(held: &mut Vec<u8>, byte: u8) -> Result<(), AllocError>
+    ensures { held.new.items ≡ (if is_ok result then held.old.items ++ byte ∷ [] else held.old.items) }
+{
+    held.push(byte)?;
+    Ok(())
+}
+
 impl Buffer {
     /// No byte yet: what is written goes where the bytes of `room` stand.
     pub(crate) fn new(room: Vec<u8>) -> Buffer
@@ -30,15 +39,16 @@ impl Buffer {
         Buffer { held: room, len: 0 }
     }
 
-    /// Writes a byte more.
+    /// Writes a byte more. The bytes stay as they are where memory runs out.
     #[inline(always)]
     pub(crate) fn push(&mut self, byte: u8) -> Result<(), AllocError>
-        ensures { OnOk result (self.new ≡ self.old ++ byte ∷ []) }
+        ensures written { OnOk result (self.new ≡ self.old ++ byte ∷ []) }
+        ensures kept { OnErr result (self.new ≡ self.old) }
     {
         if self.len < self.held.len() {
             self.held[self.len] = byte;
         } else {
-            self.held.push(byte)?;
+            grow(&mut self.held, byte)?;
         }
         self.len += 1;
         Ok(())

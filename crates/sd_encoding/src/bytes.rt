@@ -1,38 +1,38 @@
 //! Numbers as bytes: five bits of a number in each, and how many zeros stand behind it.
 
-ghost use Rattle.std.specs.Prelude.{◌≡◌, ◌<◌, ◌≤◌, ◌+◌, ◌*◌, ◌^◌, ◌++◌, ◌==◌, ◌&&◌, Some, None, nat_lt, if◌then◌else◌, OnOk, IfOk, reverse};
+ghost use Rattle.std.specs.Prelude.{◌≡◌, ◌<◌, ◌+◌, ◌*◌, ◌^◌, ◌++◌, ◌==◌, ◌&&◌, ℕ, List, Some, None, nat_lt, if◌then◌else◌, OnOk, IfOk, reverse};
 ghost use Rattle.std.specs.Option.{option_map};
-ghost use Rattle.sd_encoding.specs.Bytes.{number_bytes, with_zeros, joined, numbers_in};
+ghost use Rattle.sd_encoding.specs.Bytes.{bytes_from, with_zeros, joined, numbers_in};
 
 use crate::buffer::Buffer;
 use std::alloc::{AllocError, Global};
 
-/// The most zeros behind a number that its last byte counts.
-pub(crate) const MOST_ZEROS: u8 = 6;
+/// The last byte of a number below this one has room for a zero more behind it: it counts at most six of them.
+pub(crate) const FULL: u8 = 192;
 
 /// What is added to a byte of a number that goes on in the next one.
 const GOES_ON: u8 = 224;
 
-/// Writes the bytes of a number with so many zeros behind it at the end.
-pub(crate) fn write_number(number: u64, zeros: u8, into: &mut Buffer) -> Result<(), AllocError>
-    requires { zeros ≤ 6 }
-    ensures { OnOk result (into.new ≡ into.old ++ number_bytes number zeros) }
+/// The number is a zero more behind the number whose last byte this is, and that byte has room for it.
+#[inline(always)]
+pub(crate) fn is_counted(number: u64, last: u8) -> bool
+    ensures { result ≡ (number == 0 && nat_lt last 192) }
+{
+    number == 0 && last < FULL
+}
+
+/// Writes the bytes of a number but for its last one, with no zero behind it, which it returns.
+#[inline(never)]
+pub(crate) fn write_front(number: u64, into: &mut Buffer) -> Result<u8, AllocError>
+    ensures last { IfOk result (λ last. last < 32) }
+    ensures written { IfOk result (λ last. (more : List ℕ) → into.new ++ bytes_from last 0 more ≡ into.old ++ bytes_from number 0 more) }
 {
     let mut rest = number;
     while rest >= 32 {
         into.push((rest % 32) as u8 + GOES_ON)?;
         rest /= 32;
     }
-    into.push(rest as u8 + 32 * zeros)?;
-    Ok(())
-}
-
-/// The number is a zero more behind a number with so many, and its last byte has room for it.
-#[inline(always)]
-pub(crate) fn is_counted(number: u64, zeros: u8) -> bool
-    ensures { result ≡ (number == 0 && nat_lt zeros 6) }
-{
-    number == 0 && zeros < MOST_ZEROS
+    Ok(rest as u8)
 }
 
 /// The number that has these low five bits and these higher ones, if it is below 2^64.

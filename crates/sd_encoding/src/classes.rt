@@ -35,6 +35,7 @@ impl Packed for Quantum {
 
     ghost again = { quantum_again };
 
+    #[inline(always)]
     fn write(&self, into: &mut Writer) -> Result<(), AllocError> {
         match self {
             Quantum::Def => 0u64.write(into),
@@ -97,6 +98,7 @@ impl Packed for TsState {
 
     ghost again = { ts_again };
 
+    #[inline(always)]
     fn write(&self, into: &mut Writer) -> Result<(), AllocError> {
         (
             self.cpupri,
@@ -148,6 +150,7 @@ impl Packed for FxState {
 
     ghost again = { fx_again };
 
+    #[inline(always)]
     fn write(&self, into: &mut Writer) -> Result<(), AllocError> {
         (self.limit, (self.pri, (self.quantum, self.left))).write(into)
     }
@@ -189,6 +192,7 @@ impl Packed for SysState {
 
     ghost again = { sys_again };
 
+    #[inline(always)]
     fn write(&self, into: &mut Writer) -> Result<(), AllocError> {
         self.pri.write(into)
     }
@@ -227,6 +231,7 @@ impl Packed for RtState {
 
     ghost again = { rt_again };
 
+    #[inline(always)]
     fn write(&self, into: &mut Writer) -> Result<(), AllocError> {
         (self.pri, (self.quantum, self.left)).write(into)
     }
@@ -255,6 +260,7 @@ impl Packed for ClassState {
 
     ghost again = { class_again };
 
+    #[inline(always)]
     fn write(&self, into: &mut Writer) -> Result<(), AllocError> {
         match self {
             ClassState::Ts(state) => (0u64, *state).write(into),

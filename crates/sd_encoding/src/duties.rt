@@ -19,6 +19,7 @@ impl Packed for Duty {
 
     ghost again = { duty_again };
 
+    #[inline(always)]
     fn write(&self, into: &mut Writer) -> Result<(), AllocError> {
         match self {
             Duty::Nothing => 0u64.write(into),

@@ -19,6 +19,7 @@ impl Packed for CpuId {
 
     ghost again = { cpu_id_again };
 
+    #[inline(always)]
     fn write(&self, into: &mut Writer) -> Result<(), AllocError> {
         self.0.write(into)
     }
@@ -44,6 +45,7 @@ impl Packed for ThreadId {
 
     ghost again = { thread_id_again };
 
+    #[inline(always)]
     fn write(&self, into: &mut Writer) -> Result<(), AllocError> {
         self.0.write(into)
     }
@@ -69,6 +71,7 @@ impl Packed for LockId {
 
     ghost again = { lock_id_again };
 
+    #[inline(always)]
     fn write(&self, into: &mut Writer) -> Result<(), AllocError> {
         self.0.write(into)
     }
@@ -94,6 +97,7 @@ impl Packed for ChanId {
 
     ghost again = { chan_id_again };
 
+    #[inline(always)]
     fn write(&self, into: &mut Writer) -> Result<(), AllocError> {
         self.0.write(into)
     }
@@ -119,6 +123,7 @@ impl Packed for SetId {
 
     ghost again = { set_id_again };
 
+    #[inline(always)]
     fn write(&self, into: &mut Writer) -> Result<(), AllocError> {
         self.0.write(into)
     }
@@ -144,6 +149,7 @@ impl Packed for Side {
 
     ghost again = { λ x rest _. side_again x rest };
 
+    #[inline(always)]
     fn write(&self, into: &mut Writer) -> Result<(), AllocError> {
         match self {
             Side::Writer => into.push(0)?,

@@ -20,6 +20,7 @@ impl Packed for LockState {
 
     ghost again = { lock_again };
 
+    #[inline(always)]
     fn write(&self, into: &mut Writer) -> Result<(), AllocError> {
         match self {
             LockState::Free => 0u64.write(into),

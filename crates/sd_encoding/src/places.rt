@@ -20,6 +20,7 @@ impl Packed for Place {
 
     ghost again = { place_again };
 
+    #[inline(always)]
     fn write(&self, into: &mut Writer) -> Result<(), AllocError> {
         match self {
             Place::Running(cpu) => (0u64, *cpu).write(into),

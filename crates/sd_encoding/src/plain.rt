@@ -61,6 +61,7 @@ impl Packed for u8 {
 
     ghost again = { below_again (2 ^ 8) };
 
+    #[inline(always)]
     fn write(&self, into: &mut Writer) -> Result<(), AllocError> {
         let number = *self;
         into.push(u64::from(number))?;
@@ -91,6 +92,7 @@ impl Packed for u16 {
 
     ghost again = { below_again (2 ^ 16) };
 
+    #[inline(always)]
     fn write(&self, into: &mut Writer) -> Result<(), AllocError> {
         let number = *self;
         into.push(u64::from(number))?;
@@ -121,6 +123,7 @@ impl Packed for u32 {
 
     ghost again = { below_again (2 ^ 32) };
 
+    #[inline(always)]
     fn write(&self, into: &mut Writer) -> Result<(), AllocError> {
         let number = *self;
         into.push(u64::from(number))?;
@@ -152,6 +155,7 @@ impl Packed for u64 {
 
     ghost again = { λ n rest _. number_again n rest };
 
+    #[inline(always)]
     fn write(&self, into: &mut Writer) -> Result<(), AllocError> {
         into.push(*self)?;
         Ok(())
@@ -176,6 +180,7 @@ impl Packed for i8 {
 
     ghost again = { signed_byte_again };
 
+    #[inline(always)]
     fn write(&self, into: &mut Writer) -> Result<(), AllocError> {
         let number = *self;
         into.push(zigzag(i64::from(number)))?;
@@ -203,6 +208,7 @@ impl Packed for i64 {
 
     ghost again = { λ z rest _. signed_again z rest };
 
+    #[inline(always)]
     fn write(&self, into: &mut Writer) -> Result<(), AllocError> {
         into.push(zigzag(*self))?;
         Ok(())
@@ -229,6 +235,7 @@ impl Packed for bool {
 
     ghost again = { λ b rest _. truth_again b rest };
 
+    #[inline(always)]
     fn write(&self, into: &mut Writer) -> Result<(), AllocError> {
         if *self {
             into.push(1)?;
@@ -263,6 +270,7 @@ impl<T: Packed> Packed for Option<T> {
 
     ghost again = { optional_again T.numbers_of T.fits T.at T.again };
 
+    #[inline(always)]
     fn write(&self, into: &mut Writer) -> Result<(), AllocError> {
         match self {
             None => into.push(0)?,
@@ -301,6 +309,7 @@ impl<A: Packed + Copy, B: Packed + Copy> Packed for (A, B) {
 
     ghost again = { pair_again A.numbers_of A.fits A.at A.again B.numbers_of B.fits B.at B.again };
 
+    #[inline(always)]
     fn write(&self, into: &mut Writer) -> Result<(), AllocError> {
         self.0.write(into)?;
         self.1.write(into)

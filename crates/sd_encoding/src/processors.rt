@@ -21,6 +21,7 @@ impl Packed for CpuState {
     ghost again = { cpu_again };
 
     #[tactic(auto, unfolding(crate::specs::Numbers::cpu))]
+    #[inline(always)]
     fn write(&self, into: &mut Writer) -> Result<(), AllocError> {
         (
             (self.count, (self.user, self.kernel)),

@@ -21,6 +21,7 @@ impl Packed for ThreadBody {
 
     ghost again = { body_again };
 
+    #[inline(always)]
     #[tactic(auto, unfolding(crate::specs::Numbers::body))]
     fn write(&self, into: &mut Writer) -> Result<(), AllocError> {
         self.class.write(into)?;
@@ -78,6 +79,7 @@ impl Packed for ThreadState {
     ghost again = { thread_again };
 
     #[tactic(auto, unfolding(crate::specs::Numbers::thread))]
+    #[inline(always)]
     fn write(&self, into: &mut Writer) -> Result<(), AllocError> {
         self.body.write(into)?;
         self.place.write(into)

@@ -1,21 +1,20 @@
 //! Numbers that become bytes one after another, in memory that is kept from one list of numbers to the next.
 
-ghost use Rattle.std.specs.Prelude.{◌≡◌, ◌<◌, ◌≤◌, ◌^◌, ◌++◌, ◌∷◌, [], OnOk, IfOk};
+ghost use Rattle.std.specs.Prelude.{◌≡◌, ◌<◌, ◌≤◌, ◌^◌, ◌++◌, ◌∷◌, [], OnErr, OnOk, IfOk};
 ghost use Rattle.std.specs.List.{All};
 ghost use Rattle.sd_encoding.specs.Bytes.{bytes_of};
 ghost use Rattle.sd_encoding.specs.Writing.{pending};
 
 use crate::buffer::Buffer;
-use crate::bytes::{MOST_ZEROS, is_counted, write_number};
+use crate::bytes::{FULL, is_counted, write_front};
 use std::alloc::AllocError;
 use std::marker::Model;
 
-/// Numbers as their bytes. The last number is held back, since the zeros that follow it stand in its last byte.
+/// Numbers as their bytes. The last byte is held back, since the zeros that follow the last number stand in it.
 #[derive(Drop)]
 pub struct Writer {
     bytes: Buffer,
-    number: u64,
-    zeros: u8,
+    last: u8,
     begun: bool,
 }
 
@@ -25,19 +24,19 @@ impl Model for Writer {
 
     ghost Value = { List ℕ };
 
-    ghost view = { λ w. written w.begun w.bytes w.number w.zeros };
+    ghost view = { λ w. written w.begun w.bytes w.last };
 
-    ghost invariant = { λ w. IsWritten w.begun w.bytes w.number w.zeros (written w.begun w.bytes w.number w.zeros) };
+    ghost invariant = { λ w. IsWritten w.begun w.bytes w.last (written w.begun w.bytes w.last) };
 }
 
-/// Writes the bytes of a number that was held back, where there is one.
-#[inline(never)]
-fn write_pending(begun: bool, number: u64, zeros: u8, into: &mut Buffer) -> Result<(), AllocError>
-    requires { zeros ≤ 6 }
-    ensures { OnOk result (into.new ≡ into.old ++ pending begun number zeros) }
+/// Writes the byte that was held back, where there is one. The bytes stay as they are where memory runs out.
+#[inline(always)]
+fn write_pending(begun: bool, last: u8, into: &mut Buffer) -> Result<(), AllocError>
+    ensures written { OnOk result (into.new ≡ into.old ++ pending begun last) }
+    ensures kept { OnErr result (into.new ≡ into.old) }
 {
     if begun {
-        write_number(number, zeros, into)?;
+        into.push(last)?;
     }
     Ok(())
 }
@@ -49,8 +48,7 @@ impl Writer {
     {
         Writer {
             bytes: Buffer::new(room),
-            number: 0,
-            zeros: MOST_ZEROS,
+            last: FULL,
             begun: false,
         }
     }
@@ -60,20 +58,25 @@ impl Writer {
     pub fn push(&mut self, number: u64) -> Result<(), AllocError>
         ensures { OnOk result (self.new ≡ self.old ++ number ∷ []) }
     {
-        if is_counted(number, self.zeros) {
-            self.zeros += 1;
+        if is_counted(number, self.last) {
+            self.last += 32;
             return Ok(());
         }
-        match write_pending(self.begun, self.number, self.zeros, &mut self.bytes) {
-            Ok(()) => {
-                self.number = number;
-                self.zeros = 0;
+        write_pending(self.begun, self.last, &mut self.bytes)?;
+        if number < 32 {
+            self.last = number as u8;
+            self.begun = true;
+            return Ok(());
+        }
+        match write_front(number, &mut self.bytes) {
+            Ok(last) => {
+                self.last = last;
                 self.begun = true;
                 Ok(())
             }
             Err(error) => {
                 self.bytes.clear();
-                self.zeros = MOST_ZEROS;
+                self.last = FULL;
                 self.begun = false;
                 Err(error)
             }
@@ -86,7 +89,7 @@ impl Writer {
         ensures small { All (λ n. n < 2 ^ 64) self }
     {
         let mut bytes = self.bytes;
-        write_pending(self.begun, self.number, self.zeros, &mut bytes)?;
+        write_pending(self.begun, self.last, &mut bytes)?;
         Ok(bytes.into_bytes())
     }
 }
