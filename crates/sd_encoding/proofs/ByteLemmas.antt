@@ -1,11 +1,13 @@
 -- Numbers as bytes and back.
 use Rattle.std.proofs.Common.{◌≡◌, ℕ, zero, suc, ◌+◌, ◌-◌, ◌*◌, ◌/◌, ◌%◌, ◌^◌, ◌<◌, ◌≤◌, Bool, true, false, List, [], ◌∷◌, ◌++◌, length, get_or, drop, Option, Some, None, refl, sym, ap, ◌∙◌, arith, inl, inr, cond}
-use Rattle.std.specs.Prelude.{nat_lt, reverse, ◌&&◌, ◌==◌}
+use Rattle.std.proofs.Common.{set, ◌≢◌, get_or-set_other}
+use Rattle.std.specs.Prelude.{nat_lt, ◌&&◌, ◌==◌}
 use Rattle.std.specs.List.{AllByRecursion}
 use Rattle.std.proofs.Math.Seq.{drop-cons}
 use Rattle.std.proofs.lemmas.Bool.{lt-ltb, le-ltb, ltb-true, eqb-true, and_parts, cases_lt}
-use Rattle.std.proofs.lemmas.List.{append-nil, reverse-append, nil_from_length, drop_all}
+use Rattle.std.proofs.lemmas.List.{append-nil, drop-set, drop_all}
 use Rattle.sd_encoding.specs.Bytes.{number_within, number_bytes, bytes_from, bytes_of, with_zeros, continued, joined, numbers_in}
+use Rattle.sd_encoding.specs.Placing.{AreZeros, placed}
 
 abbrev none : Option ℕ
 none = None
@@ -91,6 +93,30 @@ numbers_again (n ∷ ns) h = from_again n 0 ns h.0 (omega arith) h.1
 
 -- ---- reading
 
+pub zeros_before : (ns : List ℕ) (z i : ℕ) → z ≤ i → i ≤ length ns → AreZeros i ns → drop (i - z) ns ≡ with_zeros z (drop i ns)
+unfolding with_zeros
+zeros_before ns zero i le within zeros = let same : i - 0 ≡ i = omega arith in rw same refl
+zeros_before ns (suc z) i le within zeros =
+    let next : suc (i - suc z) ≡ i - z = omega arith in
+    let here : get_or ns (i - suc z) 0 ≡ 0 = zeros (i - suc z) (omega arith) in
+    drop-cons ns (i - suc z) 0 (omega arith) ∙ rw (here, next) (ap (λ (ms : List ℕ). 0 ∷ ms) (zeros_before ns z i (omega arith) within zeros))
+
+-- a number and the zeros behind it, of which each stands there already
+pub places_last : (byte at from : ℕ) (ns : List ℕ) → byte < 224 → 7 ≤ at → at ≤ length ns → AreZeros at ns → from ≡ at - byte / 32 - 1 → placed (set ns from (byte % 32)) (Some from) ≡ joined byte (drop at ns)
+unfolding joined
+places_last byte at from ns lt room within zeros is =
+    let ends : nat_lt byte 224 ≡ true = lt-ltb byte 224 lt in
+    let next : from + 1 ≡ at - byte / 32 = omega arith in
+    let inside : from < length ns = omega arith in
+    let cut = drop-set ns from (byte % 32) inside in
+    let rest = zeros_before ns (byte / 32) at (omega arith) within zeros in
+    rw (ends, cut, next, rest) refl
+
+pub zeros_stay : (at from n : ℕ) (ns : List ℕ) → from ≤ at → AreZeros at ns → AreZeros from (set ns from n)
+zeros_stay at from n ns le zeros k lt =
+    let ne : k ≢ from = omega arith in
+    rw get_or-set_other (zeros k (omega arith))
+
 chosen : (b : Bool) (number m : ℕ) (ns : List ℕ) → Some number ≡ cond b (Some m) None → cond b (Some (m ∷ ns)) None ≡ Some (number ∷ ns)
 chosen true number m ns e = cc
 chosen false number m ns e = absurd cc
@@ -99,48 +125,32 @@ refused : (b : Bool) (m : ℕ) (ns : List ℕ) → none ≡ cond b (Some m) none
 refused true m ns e = absurd cc
 refused false m ns e = refl
 
-turned : (ns : List ℕ) (n : ℕ) → reverse (ns ++ n ∷ []) ≡ n ∷ reverse ns
-turned ns n = reverse-append ns (n ∷ [])
+pub places_nothing : (low at : ℕ) (ns new : List ℕ) → length ns ≤ at → placed new None ≡ continued low (drop at ns)
+unfolding continued
+places_nothing low at ns new le = let empty = drop_all at ns le in rw empty refl
 
-pub joins_last : (byte : ℕ) (old zeroed new : List ℕ) → byte < 224 → reverse zeroed ≡ with_zeros (byte / 32) (reverse old) → new ≡ zeroed ++ (byte % 32) ∷ [] → joined byte (reverse old) ≡ Some (reverse new)
+pub places_more : (low at number : ℕ) (ns : List ℕ) → at < length ns → Some number ≡ cond (nat_lt (low + 32 * get_or ns at 0) (2 ^ 64)) (Some (low + 32 * get_or ns at 0)) None → placed (set ns at number) (Some at) ≡ continued low (drop at ns)
+unfolding continued
+places_more low at number ns lt is =
+    let cut = drop-set ns at number lt in
+    let next : suc at ≡ at + 1 = omega arith in
+    rw (cut, drop-cons ns at 0 lt, next) (sym (chosen (nat_lt (low + 32 * get_or ns at 0) (2 ^ 64)) number (low + 32 * get_or ns at 0) (drop (at + 1) ns) is))
+
+pub places_too_much : (low at : ℕ) (ns new : List ℕ) → at < length ns → none ≡ cond (nat_lt (low + 32 * get_or ns at 0) (2 ^ 64)) (Some (low + 32 * get_or ns at 0)) none → placed new None ≡ continued low (drop at ns)
+unfolding continued
+places_too_much low at ns new lt is =
+    rw (drop-cons ns at 0 lt) (sym (refused (nat_lt (low + 32 * get_or ns at 0) (2 ^ 64)) (low + 32 * get_or ns at 0) (drop (suc at) ns) is))
+
+pub goes_on : (byte : ℕ) (ns : List ℕ) → 224 ≤ byte → continued (byte - 224) ns ≡ joined byte ns
 unfolding joined
-joins_last byte old zeroed new lt zeros e = let ends : nat_lt byte 224 ≡ true = lt-ltb byte 224 lt in rw (ends, e, turned zeroed (byte % 32), zeros) refl
+goes_on byte ns le = let many : nat_lt byte 224 ≡ false = le-ltb byte 224 le in rw many refl
 
-pub zeros_so_far : (old into new : List ℕ) (i : ℕ) → reverse into ≡ with_zeros i (reverse old) → new ≡ into ++ 0 ∷ [] → reverse new ≡ with_zeros (i + 1) (reverse old)
-unfolding with_zeros
-zeros_so_far old into new i so_far e =
-    let next : suc i ≡ i + 1 = omega arith in
-    ap reverse e ∙ turned into 0 ∙ ap (λ (ns : List ℕ). 0 ∷ ns) so_far ∙ ap (λ (k : ℕ). with_zeros k (reverse old)) next
-
-pub no_zeros : (ns : List ℕ) → ns ≡ with_zeros 0 ns
-unfolding with_zeros
-no_zeros ns = refl
-
-pub joins_nothing : (byte : ℕ) (old : List ℕ) → 224 ≤ byte → length old ≡ 0 → joined byte (reverse old) ≡ None
-unfolding joined continued
-joins_nothing byte old le e =
-    let many : nat_lt byte 224 ≡ false = le-ltb byte 224 le in
-    let none_left : old ≡ [] = nil_from_length old e in
-    rw (many, none_left) refl
-
-pub joins_more : (byte high number : ℕ) (old left new : List ℕ) → 224 ≤ byte → old ≡ left ++ high ∷ [] → Some number ≡ cond (nat_lt (byte - 224 + 32 * high) (2 ^ 64)) (Some (byte - 224 + 32 * high)) None → new ≡ left ++ number ∷ [] → joined byte (reverse old) ≡ Some (reverse new)
-unfolding joined continued
-joins_more byte high number old left new le was is now =
-    let many : nat_lt byte 224 ≡ false = le-ltb byte 224 le in
-    rw (many, was, turned left high, now, turned left number) (chosen (nat_lt (byte - 224 + 32 * high) (2 ^ 64)) number (byte - 224 + 32 * high) (reverse left) is)
-
-pub joins_too_much : (byte high : ℕ) (old left : List ℕ) → 224 ≤ byte → old ≡ left ++ high ∷ [] → none ≡ cond (nat_lt (byte - 224 + 32 * high) (2 ^ 64)) (Some (byte - 224 + 32 * high)) none → joined byte (reverse old) ≡ None
-unfolding joined continued
-joins_too_much byte high old left le was is =
-    let many : nat_lt byte 224 ≡ false = le-ltb byte 224 le in
-    rw (many, was, turned left high) (refused (nat_lt (byte - 224 + 32 * high) (2 ^ 64)) (byte - 224 + 32 * high) (reverse left) is)
-
-pub one_before : (bytes ns : List ℕ) (i : ℕ) (r : Option (List ℕ)) → 0 < i → i ≤ length bytes → numbers_in (drop i bytes) ≡ Some ns → joined (get_or bytes (i - 1) 0) ns ≡ r → numbers_in (drop (i - 1) bytes) ≡ r
+pub one_before : (bytes ns : List ℕ) (i : ℕ) (r : Option (List ℕ)) → 0 < i → i ≤ length bytes → numbers_in (drop i bytes) ≡ Some ns → r ≡ joined (get_or bytes (i - 1) 0) ns → numbers_in (drop (i - 1) bytes) ≡ r
 unfolding numbers_in
 one_before bytes ns i r some le so_far e =
     let next : suc (i - 1) ≡ i = omega arith in
     let cut : drop (i - 1) bytes ≡ get_or bytes (i - 1) 0 ∷ drop i bytes = drop-cons bytes (i - 1) 0 (omega arith) ∙ ap (λ (j : ℕ). get_or bytes (i - 1) 0 ∷ drop j bytes) next in
-    rw (cut, so_far) e
+    rw (cut, so_far) (sym e)
 
 pub none_stays : (i : ℕ) (bytes : List ℕ) → numbers_in (drop i bytes) ≡ None → none_read ≡ numbers_in bytes
 unfolding numbers_in
@@ -148,6 +158,6 @@ none_stays zero bytes e = sym e
 none_stays (suc i) [] e = sym e
 none_stays (suc i) (byte ∷ bytes) e = let before = none_stays i bytes e in rw (← before) refl
 
-pub at_end : (bytes : List ℕ) → numbers_in (drop (length bytes) bytes) ≡ Some []
+pub at_end : (bytes ns : List ℕ) → numbers_in (drop (length bytes) bytes) ≡ Some (drop (length ns) ns)
 unfolding numbers_in
-at_end bytes = rw (drop_all (length bytes) bytes (omega arith)) refl
+at_end bytes ns = rw (drop_all (length bytes) bytes (omega arith), drop_all (length ns) ns (omega arith)) refl

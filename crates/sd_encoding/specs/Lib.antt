@@ -4,6 +4,7 @@ pub mod Encoding
 pub mod Fits
 pub mod Numbers
 pub mod Order
+pub mod Placing
 pub mod Ranges
 pub mod Ranks
 pub mod Reading

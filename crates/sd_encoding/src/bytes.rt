@@ -1,10 +1,12 @@
 //! Numbers as bytes: five bits of a number in each, and how many zeros stand behind it.
 
-ghost use Rattle.std.specs.Prelude.{◌≡◌, ◌<◌, ◌+◌, ◌*◌, ◌^◌, ◌++◌, ◌==◌, ◌&&◌, ℕ, List, Some, None, nat_lt, if◌then◌else◌, OnOk, IfOk, reverse};
+ghost use Rattle.std.specs.Prelude.{◌≡◌, ◌<◌, ◌≤◌, ◌+◌, ◌*◌, ◌^◌, ◌++◌, ◌==◌, ◌&&◌, ℕ, List, Some, None, nat_lt, if◌then◌else◌, OnOk, IfOk, IfSome, drop, length};
 ghost use Rattle.std.specs.Option.{option_map};
-ghost use Rattle.sd_encoding.specs.Bytes.{bytes_from, with_zeros, joined, numbers_in};
+ghost use Rattle.sd_encoding.specs.Bytes.{bytes_from, continued, joined, numbers_in};
+ghost use Rattle.sd_encoding.specs.Placing.{AreZeros, placed};
 
 use crate::buffer::Buffer;
+use crate::spelled::Spelled;
 use std::alloc::{AllocError, Global};
 
 /// The last byte of a number below this one has room for a zero more behind it: it counts at most six of them.
@@ -12,6 +14,9 @@ pub(crate) const FULL: u8 = 192;
 
 /// What is added to a byte of a number that goes on in the next one.
 const GOES_ON: u8 = 224;
+
+/// Memory is taken to run out where more bytes are read.
+const MOST_BYTES: usize = 0xffff_ffff;
 
 /// The number is a zero more behind the number whose last byte this is, and that byte has room for it.
 #[inline(always)]
@@ -47,49 +52,84 @@ fn combined(low: u64, high: u64) -> Option<u64>
     }
 }
 
-/// Puts so many zeros before these numbers, of which the first stands last.
-fn put_zeros(zeros: u8, numbers: &mut Vec<u64>) -> Result<(), AllocError>
-    ensures { OnOk result (reverse numbers.new.items ≡ with_zeros zeros (reverse numbers.old.items)) }
+/// Goes on with the number at place `at`, which has these bits below it. It is below 2^64 then, else they spell none.
+#[inline(never)]
+fn place_more(low: u64, at: usize, numbers: &mut [u64]) -> Option<usize>
+    requires low { low < 32 }
+    ensures spelled { placed numbers.new result ≡ continued low (drop at numbers.old) }
+    ensures zeros { AreZeros at numbers.old → AreZeros at numbers.new }
+    ensures same { IfSome result (λ from. from ≡ at) }
 {
-    numbers.reserve(zeros as usize)?;
-    for _ in 0..zeros {
-        numbers.push_reserved(0);
+    if at >= numbers.len() {
+        return None;
     }
-    Ok(())
+    let Some(number) = combined(low, numbers[at]) else {
+        return None;
+    };
+    numbers[at] = number;
+    Some(at)
 }
 
-/// Puts a byte before the bytes of these numbers, of which the first stands last. Whether they spell numbers then.
-fn join(byte: u8, numbers: &mut Vec<u64>) -> Result<bool, AllocError>
-    ensures { IfOk result (λ spells. joined byte (reverse numbers.old.items) ≡ (if spells then Some (reverse numbers.new.items) else None)) }
+/// Puts a byte before the bytes of the numbers that begin at place `at`, behind zeros; the place at which the numbers begin then.
+/// `None` where they spell none.
+#[inline(always)]
+fn place(byte: u8, at: usize, numbers: &mut [u64]) -> Option<usize>
+    requires room { 7 ≤ at }
+    requires within { at ≤ length numbers.old }
+    requires zeros { AreZeros at numbers.old }
+    ensures spelled { placed numbers.new result ≡ joined byte (drop at numbers.old) }
+    ensures zeros { IfSome result (λ from. AreZeros from numbers.new) }
+    ensures near { IfSome result (λ from. at ≤ from + 7) }
+    ensures within { IfSome result (λ from. from ≤ length numbers.new) }
 {
     if byte < GOES_ON {
-        put_zeros(byte / 32, numbers)?;
-        numbers.push(u64::from(byte % 32))?;
-        return Ok(true);
+        let from = at - (byte / 32) as usize - 1;
+        numbers[from] = u64::from(byte % 32);
+        return Some(from);
     }
-    let Some(high) = numbers.pop() else {
-        return Ok(false);
-    };
-    let Some(number) = combined(u64::from(byte - GOES_ON), high) else {
-        return Ok(false);
-    };
-    numbers.push(number)?;
-    Ok(true)
+    place_more(u64::from(byte - GOES_ON), at, numbers)
 }
 
-/// The numbers that the bytes spell, each below 2^64.
-pub fn read_numbers(alloc: Global, bytes: &[u8]) -> Result<Option<Vec<u64>>, AllocError>
-    ensures { IfOk result (λ r. option_map (λ v. v.items) r ≡ numbers_in bytes.now) }
+/// Puts the numbers that the bytes spell at the end of these zeros; the place at which they begin. `None` where they spell none.
+fn place_all(bytes: &[u8], numbers: &mut [u64]) -> Option<usize>
+    requires room { length numbers.old ≡ 7 * length bytes.now }
+    requires zeros { AreZeros (length numbers.old) numbers.old }
+    ensures spelled { placed numbers.new result ≡ numbers_in bytes.now }
+    ensures within { IfSome result (λ from. from ≤ length numbers.new) }
 {
     // from the last byte to the first, since a byte that goes on needs the bits after it
-    let mut numbers = Vec::with_capacity(alloc, bytes.len())?;
+    let mut at = numbers.len();
     let mut index = bytes.len();
     while index > 0 {
         index -= 1;
-        if !join(bytes[index], &mut numbers)? {
-            return Ok(None);
-        }
+        let Some(from) = place(bytes[index], at, numbers) else {
+            return None;
+        };
+        at = from;
     }
-    numbers.reverse();
-    Ok(Some(numbers))
+    Some(at)
+}
+
+/// The numbers that the bytes spell, each below 2^64. Memory is taken to run out at 2^32 bytes.
+pub(crate) fn spelled_in(alloc: Global, bytes: &[u8]) -> Result<Option<Spelled>, AllocError>
+    ensures { IfOk result (λ r. option_map (λ v. v) r ≡ numbers_in bytes.now) }
+{
+    if bytes.len() > MOST_BYTES {
+        return Err(AllocError);
+    }
+    let mut numbers = vec![in alloc; 0; 7 * bytes.len()]?;
+    match place_all(bytes, &mut numbers) {
+        Some(from) => Ok(Some(Spelled::new(numbers, from))),
+        None => Ok(None),
+    }
+}
+
+/// The numbers that the bytes spell, each below 2^64. Memory is taken to run out at 2^32 bytes.
+pub fn read_numbers(alloc: Global, bytes: &[u8]) -> Result<Option<Vec<u64>>, AllocError>
+    ensures { IfOk result (λ r. option_map (λ v. v.items) r ≡ numbers_in bytes.now) }
+{
+    match spelled_in(alloc, bytes)? {
+        Some(spelled) => Ok(Some(Vec::from_slice(alloc, spelled.numbers())?)),
+        None => Ok(None),
+    }
 }

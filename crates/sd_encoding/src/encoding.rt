@@ -5,7 +5,7 @@ ghost use Rattle.sd_encoding.specs.Encoding.{encoded, state_in, IsHeld, StatesAr
 ghost use Rattle.sd_encoding.specs.Ranks.{ranked};
 ghost use Rattle.sd_state.specs.declared.states.State.{State};
 
-use crate::bytes::read_numbers;
+use crate::bytes::spelled_in;
 use crate::ranks::write_ranked;
 use crate::states::read_state;
 use crate::writer::Writer;
@@ -37,10 +37,10 @@ pub fn decode(alloc: Global, bytes: &[u8]) -> Result<Option<State>, AllocError>
 fn state_in(alloc: Global, bytes: &[u8]) -> Result<Option<State>, AllocError>
     ensures { IfOk result (λ found. found ≡ state_in bytes.now) }
 {
-    let Some(numbers) = read_numbers(alloc, bytes)? else {
+    let Some(spelled) = spelled_in(alloc, bytes)? else {
         return Ok(None);
     };
-    let Some((state, rest)) = read_state(alloc, &numbers)? else {
+    let Some((state, rest)) = read_state(alloc, spelled.numbers())? else {
         return Ok(None);
     };
     if rest.is_empty() {

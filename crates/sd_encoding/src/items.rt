@@ -46,7 +46,8 @@ fn read_items<T: Packed + Drop>(
 ) -> Result<Option<(List<T>, &[u64])>, AllocError>
     ensures { IfOk result (λ r. option_map (λ x. (x.0, x.1.now)) r ≡ items_at T.at count numbers.now) }
 {
-    let mut items = Vec::new(alloc);
+    // each item takes a number at least
+    let mut items = Vec::with_capacity(alloc, numbers.len().min(count as usize))?;
     let mut rest = numbers;
     for _ in 0..count {
         let Some((item, after)) = T::read(rest) else {

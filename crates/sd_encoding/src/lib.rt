@@ -20,6 +20,7 @@ mod plain;
 mod processors;
 mod ranks;
 mod sets;
+mod spelled;
 mod states;
 mod store;
 mod threads;
