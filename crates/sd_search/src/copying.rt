@@ -6,7 +6,7 @@ ghost use Rattle.std.specs.Prelude.{◌≡◌, length, IfOk, OnOk};
 use arrayvec::ArrayVec;
 use sd_record::{copied, copied_body};
 use sd_state::{State, ThreadState};
-use sd_types::{CpuId, List};
+use sd_types::{CpuId, List, ThreadBody};
 use std::alloc::{AllocError, Global};
 
 fn copied_threads(alloc: Global, threads: &[ThreadState]) -> Result<Vec<ThreadState>, AllocError>
@@ -22,15 +22,44 @@ fn copied_threads(alloc: Global, threads: &[ThreadState]) -> Result<Vec<ThreadSt
     Ok(copies)
 }
 
+/// Makes the one list as the other is. Most lists of threads are empty, and then nothing is written.
+#[inline(always)]
+fn put_list<T: Copy + Default + Drop, const N: usize>(
+    list: &mut ArrayVec<T, N>,
+    from: &ArrayVec<T, N>,
+)
+    ensures { list.new.items ≡ from.now.items }
+{
+    if list.len() > 0 || from.len() > 0 {
+        *list = copied(from);
+    }
+}
+
+/// Makes the one body as the other is, field by field.
+#[inline(always)]
+fn put_body(body: &mut ThreadBody, from: &ThreadBody)
+    ensures { body.new ≡ from.now }
+{
+    body.class = from.class;
+    put_list(&mut body.willed, &from.willed);
+    put_list(&mut body.held, &from.held);
+    body.op = from.op;
+    body.run_left = from.run_left;
+    body.back = from.back;
+    body.last = from.last;
+    body.left_at = from.left_at;
+    body.looped = from.looped;
+    body.bound = from.bound;
+}
+
 fn put_threads(threads: &mut [ThreadState], from: &[ThreadState])
     requires { length threads.old ≡ length from.now }
     ensures { threads.new ≡ from.now }
 {
     for i in 0..from.len() {
-        threads[i] = ThreadState {
-            body: copied_body(&from[i].body),
-            place: from[i].place,
-        };
+        let thread = &mut threads[i];
+        put_body(&mut thread.body, &from[i].body);
+        thread.place = from[i].place;
     }
 }
 
