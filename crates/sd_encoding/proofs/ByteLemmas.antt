@@ -1,13 +1,15 @@
 -- Numbers as bytes and back.
 use Rattle.std.proofs.Common.{◌≡◌, ℕ, zero, suc, ◌+◌, ◌-◌, ◌*◌, ◌/◌, ◌%◌, ◌^◌, ◌<◌, ◌≤◌, Bool, true, false, List, [], ◌∷◌, ◌++◌, length, get_or, drop, Option, Some, None, refl, sym, ap, ◌∙◌, arith, inl, inr, cond}
-use Rattle.std.proofs.Common.{set, ◌≢◌, get_or-set_other}
+use Rattle.std.proofs.Common.{set, take, ◌≢◌, get_or-set_other}
+use Rattle.std.specs.List.{sum_by}
+use Rattle.std.proofs.lemmas.List.Sums.{sum_by_more}
 use Rattle.std.specs.Prelude.{nat_lt, ◌&&◌, ◌==◌}
 use Rattle.std.specs.List.{AllByRecursion}
 use Rattle.std.proofs.Math.Seq.{drop-cons}
 use Rattle.std.proofs.lemmas.Bool.{lt-ltb, le-ltb, ltb-true, eqb-true, and_parts, cases_lt}
 use Rattle.std.proofs.lemmas.List.{append-nil, drop-set, drop_all}
 use Rattle.sd_encoding.specs.Bytes.{number_within, number_bytes, bytes_from, bytes_of, with_zeros, continued, joined, numbers_in}
-use Rattle.sd_encoding.specs.Placing.{AreZeros, placed}
+use Rattle.sd_encoding.specs.Placing.{AreZeros, placed, room_of}
 
 abbrev none : Option ℕ
 none = None
@@ -102,7 +104,7 @@ zeros_before ns (suc z) i le within zeros =
     drop-cons ns (i - suc z) 0 (omega arith) ∙ rw (here, next) (ap (λ (ms : List ℕ). 0 ∷ ms) (zeros_before ns z i (omega arith) within zeros))
 
 -- a number and the zeros behind it, of which each stands there already
-pub places_last : (byte at from : ℕ) (ns : List ℕ) → byte < 224 → 7 ≤ at → at ≤ length ns → AreZeros at ns → from ≡ at - byte / 32 - 1 → placed (set ns from (byte % 32)) (Some from) ≡ joined byte (drop at ns)
+pub places_last : (byte at from : ℕ) (ns : List ℕ) → byte < 224 → byte / 32 + 1 ≤ at → at ≤ length ns → AreZeros at ns → from ≡ at - byte / 32 - 1 → placed (set ns from (byte % 32)) (Some from) ≡ joined byte (drop at ns)
 unfolding joined
 places_last byte at from ns lt room within zeros is =
     let ends : nat_lt byte 224 ≡ true = lt-ltb byte 224 lt in
@@ -140,6 +142,14 @@ pub places_too_much : (low at : ℕ) (ns new : List ℕ) → at < length ns → 
 unfolding continued
 places_too_much low at ns new lt is =
     rw (drop-cons ns at 0 lt) (sym (refused (nat_lt (low + 32 * get_or ns at 0) (2 ^ 64)) (low + 32 * get_or ns at 0) (drop (suc at) ns) is))
+
+pub room_ended : (byte at : ℕ) → byte < 224 → room_of byte ≤ at → byte / 32 + 1 ≤ at
+room_ended byte at lt le = let ends : nat_lt byte 224 ≡ true = lt-ltb byte 224 lt in rw ends at le
+
+pub room_before : (bytes : List ℕ) (i : ℕ) → 0 < i → i ≤ length bytes → sum_by room_of (take i bytes) ≡ sum_by room_of (take (i - 1) bytes) + room_of (get_or bytes (i - 1) 0)
+room_before bytes i some le =
+    let next : i - 1 + 1 ≡ i = omega arith in
+    ap (λ (j : ℕ). sum_by room_of (take j bytes)) (sym next) ∙ sum_by_more room_of bytes (i - 1) 0 (omega arith)
 
 pub goes_on : (byte : ℕ) (ns : List ℕ) → 224 ≤ byte → continued (byte - 224) ns ≡ joined byte ns
 unfolding joined

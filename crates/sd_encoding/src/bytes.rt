@@ -1,9 +1,10 @@
 //! Numbers as bytes: five bits of a number in each, and how many zeros stand behind it.
 
 ghost use Rattle.std.specs.Prelude.{◌≡◌, ◌<◌, ◌≤◌, ◌+◌, ◌*◌, ◌^◌, ◌++◌, ◌==◌, ◌&&◌, ℕ, List, Some, None, nat_lt, if◌then◌else◌, OnOk, IfOk, IfSome, drop, length};
+ghost use Rattle.std.specs.List.{sum_by};
 ghost use Rattle.std.specs.Option.{option_map};
 ghost use Rattle.sd_encoding.specs.Bytes.{bytes_from, continued, joined, numbers_in};
-ghost use Rattle.sd_encoding.specs.Placing.{AreZeros, placed};
+ghost use Rattle.sd_encoding.specs.Placing.{AreZeros, placed, room_of};
 
 use crate::buffer::Buffer;
 use crate::spelled::Spelled;
@@ -74,12 +75,12 @@ fn place_more(low: u64, at: usize, numbers: &mut [u64]) -> Option<usize>
 /// `None` where they spell none.
 #[inline(always)]
 fn place(byte: u8, at: usize, numbers: &mut [u64]) -> Option<usize>
-    requires room { 7 ≤ at }
+    requires room { room_of byte ≤ at }
     requires within { at ≤ length numbers.old }
     requires zeros { AreZeros at numbers.old }
     ensures spelled { placed numbers.new result ≡ joined byte (drop at numbers.old) }
     ensures zeros { IfSome result (λ from. AreZeros from numbers.new) }
-    ensures near { IfSome result (λ from. at ≤ from + 7) }
+    ensures room { IfSome result (λ from. at ≡ from + room_of byte) }
     ensures within { IfSome result (λ from. from ≤ length numbers.new) }
 {
     if byte < GOES_ON {
@@ -90,9 +91,34 @@ fn place(byte: u8, at: usize, numbers: &mut [u64]) -> Option<usize>
     place_more(u64::from(byte - GOES_ON), at, numbers)
 }
 
+/// How many numbers end with a byte: the one of which it is the last byte, and the zeros behind that one.
+#[inline(always)]
+fn room_of(byte: u8) -> usize
+    ensures value { result ≡ room_of byte }
+    ensures few { result ≤ 7 }
+{
+    if byte < GOES_ON {
+        (byte / 32) as usize + 1
+    } else {
+        0
+    }
+}
+
+/// How many numbers these bytes spell, where they spell some.
+fn room_for(bytes: &[u8]) -> usize
+    requires { length bytes.now < 2 ^ 32 }
+    ensures { result ≡ sum_by room_of bytes.now }
+{
+    let mut room = 0;
+    for byte in bytes {
+        room += room_of(*byte);
+    }
+    room
+}
+
 /// Puts the numbers that the bytes spell at the end of these zeros; the place at which they begin. `None` where they spell none.
 fn place_all(bytes: &[u8], numbers: &mut [u64]) -> Option<usize>
-    requires room { length numbers.old ≡ 7 * length bytes.now }
+    requires room { length numbers.old ≡ sum_by room_of bytes.now }
     requires zeros { AreZeros (length numbers.old) numbers.old }
     ensures spelled { placed numbers.new result ≡ numbers_in bytes.now }
     ensures within { IfSome result (λ from. from ≤ length numbers.new) }
@@ -117,7 +143,7 @@ pub(crate) fn spelled_in(alloc: Global, bytes: &[u8]) -> Result<Option<Spelled>,
     if bytes.len() > MOST_BYTES {
         return Err(AllocError);
     }
-    let mut numbers = vec![in alloc; 0; 7 * bytes.len()]?;
+    let mut numbers = vec![in alloc; 0; room_for(bytes)]?;
     match place_all(bytes, &mut numbers) {
         Some(from) => Ok(Some(Spelled::new(numbers, from))),
         None => Ok(None),
