@@ -1,2 +1,3 @@
 pub mod ExactLemmas
 pub mod ListLemmas
+pub mod PartLemmas

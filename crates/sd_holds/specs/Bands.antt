@@ -1,12 +1,22 @@
 -- The lanes in which the holds of a thread are drawn: those that overlap stand below one another.
 -- Source: this project's own.
 use Rattle.std.specs.Prelude.{ℕ, ◌+◌, max, Bool, ◌&&◌, ◌==◌, nat_lt, List, [], ◌∷◌, ◌++◌, length, filter, slice_set, take_while, if◌then◌else◌}
+use Rattle.sd_stretches.specs.declared.changes.Happening.{Happening}
 use Rattle.sd_holds.specs.declared.holdings.Hold.{Hold}
 use Rattle.sd_holds.specs.declared.banding.Band.{Band}
+use Rattle.sd_holds.specs.Holds.{holds}
 
--- of thread t, and some of it lies in the ticks from `from` to `to`
+-- some of it lies in the ticks from `from` to `to`
+abbrev pub lies_between : ℕ → ℕ → Hold → Bool
+lies_between from to x = nat_lt x.from x.to && (nat_lt x.from to && nat_lt from x.to)
+
+-- those of the holds that these entries begin, of a run that ended at tick `end`
+unfoldable pub holds_between : ℕ → ℕ → ℕ → List Happening → List Hold
+holds_between end from to xs = filter (lies_between from to) (holds end xs)
+
+-- of thread t, and some of it lies in these ticks
 abbrev pub lies_in : ℕ → ℕ → ℕ → Hold → Bool
-lies_in t from to x = x.thread.0 == t && (nat_lt x.from x.to && (nat_lt x.from to && nat_lt from x.to))
+lies_in t from to x = x.thread.0 == t && lies_between from to x
 
 abbrev pub holds_in : ℕ → ℕ → ℕ → List Hold → List Hold
 holds_in t from to xs = filter (lies_in t from to) xs

@@ -4,6 +4,7 @@ ghost use Rattle.std.specs.Prelude.{◌≡◌, ◌++◌, ◌∷◌, ◌<◌, ◌
 ghost use Rattle.sd_holds.specs.Bands.{banded, bands, holds_in, lane_at, lanes_for, lies_in, most_lanes, with_end};
 
 use crate::holdings::Hold;
+use crate::parts::lies_between;
 use std::alloc::{AllocError, Global};
 
 /// A hold, and the number of its lane, from 0: holds of one thread that overlap lie in different lanes.
@@ -17,7 +18,7 @@ pub struct Band {
 fn lies_in(t: usize, from: u32, to: u32, x: &Hold) -> bool
     ensures { result ≡ lies_in t from to x.now }
 {
-    usize::from(x.thread.0) == t && x.from < x.to && x.from < to && from < x.to
+    usize::from(x.thread.0) == t && lies_between(from, to, x)
 }
 
 fn push_in(t: usize, from: u32, to: u32, x: &Hold, found: &mut Vec<Hold>) -> Result<(), AllocError>

@@ -21,8 +21,8 @@ pub struct Hold {
     pub to: u32,
 }
 
-// The thread that becomes a holder by the event, and the lock.
-fn taken(event: Event) -> Option<(ThreadId, LockId)>
+/// The thread that becomes a holder by the event, and the lock.
+pub(crate) fn taken(event: Event) -> Option<(ThreadId, LockId)>
     ensures { result ≡ taken event }
 {
     match event {
@@ -43,8 +43,8 @@ fn gives_up(t: ThreadId, l: LockId, event: Event) -> bool
     }
 }
 
-// The first of these entries by which the thread gives the lock up.
-fn end_of(t: ThreadId, l: LockId, happenings: &[Happening]) -> Option<Happening>
+/// The first of these entries by which the thread gives the lock up.
+pub(crate) fn end_of(t: ThreadId, l: LockId, happenings: &[Happening]) -> Option<Happening>
     ensures { result ≡ end_of t l happenings.now }
 {
     for x in happenings {
@@ -55,7 +55,14 @@ fn end_of(t: ThreadId, l: LockId, happenings: &[Happening]) -> Option<Happening>
     None
 }
 
-fn hold_to(t: ThreadId, l: LockId, end: u32, x: &Happening, given: Option<Happening>) -> Hold
+/// The hold from one entry to another, or to the end of the run.
+pub(crate) fn hold_to(
+    t: ThreadId,
+    l: LockId,
+    end: u32,
+    x: &Happening,
+    given: Option<Happening>,
+) -> Hold
     ensures { result ≡ hold_to t l end x.now given }
 {
     Hold {

@@ -6,7 +6,9 @@
 mod banding;
 mod holdings;
 mod laws;
+mod parts;
 
 pub use banding::{Band, bands, most_lanes};
 pub use holdings::{Hold, holds};
 pub use laws::holds_are_exact;
+pub use parts::holds_between;
