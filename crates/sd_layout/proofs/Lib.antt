@@ -1,3 +1,4 @@
 pub mod FoldLemmas
 pub mod MarkLemmas
 pub mod RowLemmas
+pub mod ActLemmas

@@ -92,9 +92,9 @@ unfoldable pub folds_of : List ℕ → List Column
 folds_of [] = []
 folds_of (a ∷ bs) = folds_from a bs
 
--- a picture of more ticks would be wider than 2,000 pixels, at two a tick
+-- a picture of more ticks would be wider than 1,040 pixels, at one a tick
 abbrev pub is_wide : Frame → Bool
-is_wide f = nat_lt 880 (f.to - f.from)
+is_wide f = nat_lt 760 (f.to - f.from)
 
 -- a thousand folds at most
 abbrev pub are_few : List Column → Bool
@@ -128,13 +128,19 @@ place_from scale start tick (x ∷ xs) =
 
 -- so many pixels a tick are not too many
 abbrev pub fits_page : Frame → List Column → ℕ → Bool
-fits_page f xs scale = nat_le (place_from scale f.from f.to xs) 1000
+fits_page f xs scale = nat_le (place_from scale f.from f.to xs) 760
 
--- how many pixels a tick is long: the widest of nine scales that fits, and two where none does
+-- the first of these scales that fits, and one pixel a tick where none does
+unfoldable pub first_fit : Frame → List Column → List ℕ → ℕ
+first_fit f xs [] = 1
+first_fit f xs (s ∷ ss) = if fits_page f xs s then s else first_fit f xs ss
+
+abbrev pub scales : List ℕ
+scales = 100 ∷ 80 ∷ 60 ∷ 50 ∷ 40 ∷ 35 ∷ 30 ∷ 25 ∷ 20 ∷ 18 ∷ 15 ∷ 12 ∷ 10 ∷ 8 ∷ 7 ∷ 6 ∷ 5 ∷ 4 ∷ 3 ∷ 2 ∷ []
+
+-- how many pixels a tick is long: the widest scale that fits
 unfoldable pub scale_of : Frame → List Column → ℕ
-scale_of f xs =
-    if fits_page f xs 20 then 20 else if fits_page f xs 15 then 15 else if fits_page f xs 10 then 10 else if fits_page f xs 8 then 8
-    else if fits_page f xs 7 then 7 else if fits_page f xs 5 then 5 else if fits_page f xs 4 then 4 else if fits_page f xs 3 then 3 else 2
+scale_of f xs = first_fit f xs scales
 
 -- ---- laws
 

@@ -1,6 +1,6 @@
 -- Where things stand in the picture.
 -- Source: this project's own.
-use Rattle.std.specs.Prelude.{ℕ, Bool, not, ◌&&◌, ◌+◌, ◌-◌, ◌*◌, ◌/◌, ◌%◌, ◌==◌, min, max, nat_le, nat_lt, List, Option, Some, None, if◌then◌else◌}
+use Rattle.std.specs.Prelude.{ℕ, Bool, not, ◌&&◌, ◌+◌, ◌-◌, ◌*◌, ◌/◌, ◌%◌, ◌==◌, min, max, nat_le, nat_lt, sum, take, List, Option, Some, None, if◌then◌else◌}
 use Rattle.std.specs.List.{list_any, position}
 use Rattle.sd_layout.specs.declared.folds.Column.{Column}
 use Rattle.sd_layout.specs.declared.layouts.Row.{Row}
@@ -8,13 +8,16 @@ use Rattle.sd_layout.specs.declared.layouts.Row.TheVariants.{Cpu, Thread}
 use Rattle.sd_layout.specs.Folds.{place_from}
 
 -- what is drawn: the ticks from `from` to `to`, so many pixels each, but for those that are folded; a row for each processor, and
--- one for each of these threads, in this order, for which there is room for so many
+-- one for each of these threads, in this order, for which there is room for so many. Under each of these rows are so many lanes for
+-- the locks that the thread holds; `sets` says whether there are processor sets, of which notes tell under the rows of processors.
 pub record Layout : Type 0 where
   pub from : ℕ
   pub to : ℕ
   pub cpus : ℕ
   pub threads : ℕ
   pub rows : List ℕ
+  pub lanes : List ℕ
+  pub sets : Bool
   pub scale : ℕ
   pub folds : List Column
 
@@ -24,7 +27,7 @@ shown f = f.to - f.from
 
 -- how many ticks lie between the numbers of the axis
 abbrev pub step : Layout → ℕ
-step f = if nat_le 20 f.scale then 5 else if nat_le 10 f.scale then 10 else if nat_le 5 f.scale then 20 else if nat_le 3 f.scale then 50 else 100
+step f = if nat_le 50 f.scale then 1 else if nat_le 25 f.scale then 2 else if nat_le 10 f.scale then 5 else if nat_le 5 f.scale then 10 else if nat_le 3 f.scale then 20 else 50
 
 -- how far a tick lies from the first one that is drawn; one that is not drawn lies at the nearer edge
 abbrev pub place : Layout → ℕ → ℕ
@@ -38,13 +41,13 @@ column f tick = 150 + place f tick
 abbrev pub width : Layout → ℕ → ℕ → ℕ
 width f a b = place f b - place f a
 
--- where the text on a bar begins that begins with a tick
+-- where the ground of a word begins that stands on a bar that begins with a tick
 abbrev pub inside : Layout → ℕ → ℕ
-inside f tick = 152 + place f tick
+inside f tick = 153 + place f tick
 
--- where the priority stands that a thread has from a tick on: beside the line that may end there
+-- where words begin that tell of what begins with a tick: beside a line that may end there
 abbrev pub beside : Layout → ℕ → ℕ
-beside f tick = 155 + place f tick
+beside f tick = 156 + place f tick
 
 -- a fold lies so near a tick, or nearer
 abbrev pub is_near : ℕ → ℕ → Column → Bool
@@ -61,48 +64,75 @@ number f (Thread t) = f.cpus + t
 
 -- the room in front of row n for the numbers of the axis, which stand after every 40 rows
 abbrev pub gap : ℕ → ℕ
-gap n = 16 * (n / 40)
+gap n = 18 * (n / 40)
 
--- how far a row lies below the first one; the rows of threads are higher
+-- the height of the row of a processor, with its notes
+abbrev pub cpu_height : Layout → ℕ
+cpu_height f = if f.sets then 40 else 26
+
+-- how many lanes the first rows of threads have
+abbrev pub lanes_above : Layout → ℕ → ℕ
+lanes_above f t = sum (take t f.lanes)
+
+-- the height of all rows of processors, and of so many rows of threads
+abbrev pub cpus_height : Layout → ℕ
+cpus_height f = cpu_height f * f.cpus
+
+abbrev pub threads_height : Layout → ℕ → ℕ
+threads_height f t = 48 * t + 16 * lanes_above f t
+
+-- how far a row lies below the first one
 abbrev pub lowered : Layout → Row → ℕ
-lowered f (Cpu c) = 24 * c + gap (number f (Cpu c))
-lowered f (Thread t) = 24 * f.cpus + 40 * t + gap (number f (Thread t))
+lowered f (Cpu c) = cpu_height f * c + gap (number f (Cpu c))
+lowered f (Thread t) = cpus_height f + threads_height f t + gap (number f (Thread t))
 
 -- the top of the bars of a row, and the base line of the texts on them
 abbrev pub top : Layout → Row → ℕ
-top f (Cpu c) = 128 + lowered f (Cpu c)
-top f (Thread t) = 156 + lowered f (Thread t)
+top f (Cpu c) = 56 + lowered f (Cpu c)
+top f (Thread t) = 76 + lowered f (Thread t)
 
 abbrev pub base : Layout → Row → ℕ
-base f (Cpu c) = 139 + lowered f (Cpu c)
-base f (Thread t) = 167 + lowered f (Thread t)
+base f (Cpu c) = 69 + lowered f (Cpu c)
+base f (Thread t) = 89 + lowered f (Thread t)
 
 -- the lower edge of the bars of a row
 abbrev pub floor : Layout → Row → ℕ
-floor f (Cpu c) = 142 + lowered f (Cpu c)
-floor f (Thread t) = 170 + lowered f (Thread t)
+floor f (Cpu c) = 74 + lowered f (Cpu c)
+floor f (Thread t) = 94 + lowered f (Thread t)
 
 -- from where to where a line across the bars of a row goes
 abbrev pub across : Layout → Row → ℕ × ℕ
-across f (Cpu c) = (125 + lowered f (Cpu c), 145 + lowered f (Cpu c))
-across f (Thread t) = (153 + lowered f (Thread t), 173 + lowered f (Thread t))
+across f (Cpu c) = (53 + lowered f (Cpu c), 77 + lowered f (Cpu c))
+across f (Thread t) = (73 + lowered f (Thread t), 97 + lowered f (Thread t))
 
--- the base line of the notes under a row
+-- the base line of the note under the name of a row
+abbrev pub beneath : Layout → Row → ℕ
+beneath f (Cpu c) = 87 + lowered f (Cpu c)
+beneath f (Thread t) = 104 + lowered f (Thread t)
+
+-- the base line of the notes under a row, which is below the lanes of a thread
 abbrev pub under : Layout → Row → ℕ
-under f (Cpu c) = 150 + lowered f (Cpu c)
-under f (Thread t) = 179 + lowered f (Thread t)
+under f (Cpu c) = beneath f (Cpu c)
+under f (Thread t) = beneath f (Thread t) + 16 * (lanes_above f (t + 1) - lanes_above f t)
+
+-- the top of a lane under the row of a thread, and the base line of the names on it
+abbrev pub lane_top : Layout → ℕ → ℕ → ℕ
+lane_top f t lane = 96 + lowered f (Thread t) + 16 * min lane 7
+
+abbrev pub lane_base : Layout → ℕ → ℕ → ℕ
+lane_base f t lane = 107 + lowered f (Thread t) + 16 * min lane 7
 
 -- the base line of the priorities of a thread, above its bars
 abbrev pub above : Layout → ℕ → ℕ
-above f t = 152 + lowered f (Thread t)
+above f t = 71 + lowered f (Thread t)
 
 -- the top of the priorities of a thread
 abbrev pub over : Layout → ℕ → ℕ
-over f t = 142 + lowered f (Thread t)
+over f t = 60 + lowered f (Thread t)
 
 -- where the arrow begins that is number n, from 0, among those of a tick
 abbrev pub shifted : Layout → ℕ → ℕ → ℕ
-shifted f tick n = 150 + place f tick + 4 * (n % 8)
+shifted f tick n = 150 + place f tick + 5 * (n % 8)
 
 -- the number of the last row
 abbrev pub last_row : Layout → ℕ
@@ -113,21 +143,22 @@ abbrev pub axes : Layout → ℕ
 axes f = last_row f / 40
 
 abbrev pub between_rows : Layout → ℕ → ℕ
-between_rows f n = if nat_lt n f.cpus then 124 + 24 * n + gap n else 138 + 24 * f.cpus + 40 * (n - f.cpus) + gap n
+between_rows f n =
+    if nat_lt n f.cpus then 50 + cpu_height f * n + gap n else 56 + cpus_height f + threads_height f (n - f.cpus) + gap n
 
 abbrev pub axis_base : Layout → ℕ → ℕ
 axis_base f k = between_rows f (40 * (k + 1))
 
 -- the lower edge of the last row, and the width of the picture
 abbrev pub bottom : Layout → ℕ
-bottom f = 146 + (24 * f.cpus + 40 * f.threads) + gap (last_row f)
+bottom f = 62 + (cpus_height f + threads_height f f.threads) + gap (last_row f)
 
 -- how far the last row reaches below the axis
 abbrev pub depth : Layout → ℕ
-depth f = bottom f - 118
+depth f = bottom f - 50
 
 abbrev pub total_width : Layout → ℕ
-total_width f = max (240 + place f f.to) 920
+total_width f = max (280 + place f f.to) 1040
 
 -- a tick is drawn, or ends what is drawn
 abbrev pub shows : Layout → ℕ → Bool

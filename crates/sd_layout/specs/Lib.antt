@@ -1,3 +1,4 @@
+pub mod Frames
 pub mod Folds
 pub mod Layouts
 pub mod Marks

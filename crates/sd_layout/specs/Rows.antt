@@ -1,6 +1,6 @@
 -- Which threads have a row, and in which order.
 -- Source: this project's own.
-use Rattle.std.specs.Prelude.{◌≡◌, ℕ, Bool, true, false, not, ◌&&◌, ◌||◌, ◌==◌, ◌<◌, nat_le, nat_lt, min, List, ◌++◌, length, filter, take, if◌then◌else◌}
+use Rattle.std.specs.Prelude.{◌≡◌, ℕ, Bool, true, false, not, ◌&&◌, ◌||◌, ◌==◌, ◌<◌, nat_le, nat_lt, min, List, ◌++◌, length, filter, map, take, if◌then◌else◌}
 use Rattle.std.specs.List.{All, Contains, IsDistinct, list_any}
 use Rattle.sd_types.specs.declared.works.Work.{Work}
 use Rattle.sd_state.specs.States.{thread_numbers}
@@ -8,6 +8,8 @@ use Rattle.sd_stretches.specs.declared.histories.History.{History}
 use Rattle.sd_stretches.specs.declared.rows.Stretch.{Stretch}
 use Rattle.sd_stretches.specs.Rows.{stretches}
 use Rattle.sd_stretches.specs.Sights.{does_run}
+use Rattle.sd_holds.specs.declared.holdings.Hold.{Hold}
+use Rattle.sd_holds.specs.Bands.{bands, most_lanes}
 use Rattle.sd_layout.specs.declared.frames.Frame.{Frame}
 use Rattle.sd_layout.specs.Folds.{folds, scale_of}
 use Rattle.sd_layout.specs.Layouts.{Layout}
@@ -36,14 +38,20 @@ unfoldable pub rows_of : Work → Frame → History → List ℕ
 rows_of w f h =
     if nat_le (length w.threads) f.threads then thread_numbers w else take f.threads (ordered (acts w f h) (thread_numbers w))
 
--- what is drawn of a run
-abbrev pub layout_of : Work → Frame → History → Layout
-layout_of w f h = record {
+-- how many lanes the holds of a thread need, of these that lie in the ticks that are drawn
+abbrev pub lanes_of : Frame → List Hold → ℕ → ℕ
+lanes_of f holds t = most_lanes (bands t f.from f.to holds)
+
+-- what is drawn of a run, with these holds
+abbrev pub layout_of : Work → Frame → History → List Hold → Layout
+layout_of w f h holds = record {
   from = f.from;
   to = f.to;
   cpus = f.cpus;
   threads = f.threads;
   rows = rows_of w f h;
+  lanes = map (lanes_of f holds) (rows_of w f h);
+  sets = nat_lt 0 (length w.sets);
   scale = scale_of f (folds f h);
   folds = folds f h;
 }

@@ -2,7 +2,7 @@
 
 ghost use Rattle.std.specs.Prelude.{◌≡◌, ◌≤◌, ◌<◌, ◌^◌, ◌++◌, IfOk, OnOk, flat_map, length};
 ghost use Rattle.std.specs.List.{range_with_len};
-ghost use Rattle.sd_layout.specs.Folds.{change_if, changed_by, changed_in, changes_in, fits_page, fold_if, folds, folds_from, folds_of, is_gap, is_wide, long, many, place_from, ranked_in, scale_of, stops_of, onset_in};
+ghost use Rattle.sd_layout.specs.Folds.{change_if, changed_by, changed_in, changes_in, first_fit, fits_page, fold_if, folds, folds_from, folds_of, is_gap, is_wide, long, many, place_from, ranked_in, scale_of, stops_of, onset_in};
 ghost use Rattle.sd_layout.specs.Marks.{stop_if};
 
 use crate::frames::Frame;
@@ -27,8 +27,8 @@ impl Column {
     }
 }
 
-// A picture of more ticks would be wider than 2,000 pixels, at two a tick.
-const MOST_UNFOLDED: u32 = 880;
+// A picture of more ticks would be wider than 1,040 pixels, at one a tick.
+const MOST_UNFOLDED: u32 = 760;
 
 // The most folds of a picture.
 const MOST_FOLDS: usize = 1000;
@@ -221,32 +221,35 @@ fn fits_page(frame: Frame, folds: &[Column], scale: u8) -> bool
     requires { length folds.now ≤ 1000 }
     ensures { result ≡ fits_page frame folds.now scale }
 {
-    place_from(scale, frame.from, frame.to, folds) <= 1000
+    place_from(scale, frame.from, frame.to, folds) <= 760
 }
 
-/// How many pixels a tick is long: the widest of nine scales that fits, and two where none does.
+// The first of these scales that fits, and one pixel a tick where none does.
+#[tactic(auto, unfolding(crate::specs::Folds::first_fit))]
+fn first_fit(frame: Frame, folds: &[Column], scales: &[u8]) -> u8
+    requires { length folds.now ≤ 1000 }
+    ensures { result ≡ first_fit frame folds.now scales.now }
+{
+    let mut left = scales;
+    while let Some((scale, rest)) = left.split_first() {
+        if fits_page(frame, folds, *scale) {
+            return *scale;
+        }
+        left = rest;
+    }
+    1
+}
+
+// Pixels a tick, widest first.
+const SCALES: [u8; 20] = [
+    100, 80, 60, 50, 40, 35, 30, 25, 20, 18, 15, 12, 10, 8, 7, 6, 5, 4, 3, 2,
+];
+
+/// How many pixels a tick is long: the widest scale that fits.
 #[tactic(auto, unfolding(crate::specs::Folds::scale_of))]
 pub(crate) fn scale_of(frame: Frame, folds: &[Column]) -> u8
     requires { length folds.now ≤ 1000 }
     ensures { result ≡ scale_of frame folds.now }
 {
-    if fits_page(frame, folds, 20) {
-        20
-    } else if fits_page(frame, folds, 15) {
-        15
-    } else if fits_page(frame, folds, 10) {
-        10
-    } else if fits_page(frame, folds, 8) {
-        8
-    } else if fits_page(frame, folds, 7) {
-        7
-    } else if fits_page(frame, folds, 5) {
-        5
-    } else if fits_page(frame, folds, 4) {
-        4
-    } else if fits_page(frame, folds, 3) {
-        3
-    } else {
-        2
-    }
+    first_fit(frame, folds, &SCALES)
 }

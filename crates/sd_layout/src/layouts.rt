@@ -1,14 +1,15 @@
 //! Where things stand in the picture, in its units (pixels, where it is not scaled).
 
-ghost use Rattle.std.specs.Prelude.{◌≡◌, ◌+◌, ◌-◌, ◌*◌, ◌<◌, ◌≤◌, ◌^◌, ◌==◌, length};
+ghost use Rattle.std.specs.Prelude.{◌≡◌, ◌+◌, ◌-◌, ◌*◌, ◌<◌, ◌≤◌, ◌^◌, ◌==◌, length, sum, take};
 ghost use Rattle.std.specs.List.{list_any, position};
-ghost use Rattle.sd_layout.specs.Layouts.{Layout as LayoutValue, above, across, axes, axis_base, base, beside, between_rows, bottom, column, depth, floor, gap, inside, is_clear, is_near, last_row, lowered, number, over, place, row_if, row_of, shifted, shown, shows, step, top, total_width, under, width};
+ghost use Rattle.sd_layout.specs.Layouts.{Layout as LayoutValue, above, across, axes, axis_base, base, beneath, beside, between_rows, bottom, column, cpu_height, cpus_height, depth, floor, gap, inside, is_clear, is_near, lane_base, lane_top, lanes_above, last_row, lowered, number, over, place, row_if, row_of, shifted, shown, shows, step, threads_height, top, total_width, under, width};
 
 use crate::folds::{Column, place_from};
 use std::marker::Model;
 
 /// What is drawn: the ticks from `from` to `to`, so many pixels each, but for those that are folded; a row for each processor, and one
-/// for each of the threads `rows`, in this order, for which there is room for so many.
+/// for each of the threads `rows`, in this order, for which there is room for so many. Under each of these rows are so many `lanes` for
+/// the locks that the thread holds; `sets` says whether there are processor sets, of which notes tell under the rows of processors.
 #[derive(Drop)]
 pub struct Layout {
     pub from: u32,
@@ -16,6 +17,8 @@ pub struct Layout {
     pub cpus: u16,
     pub threads: u16,
     pub rows: Vec<usize>,
+    pub lanes: Vec<u16>,
+    pub sets: bool,
     pub scale: u8,
     pub folds: Vec<Column>,
 }
@@ -23,7 +26,7 @@ pub struct Layout {
 impl Model for Layout {
     ghost Value = { LayoutValue };
 
-    ghost view = { λ f. record { from = f.from; to = f.to; cpus = f.cpus; threads = f.threads; rows = f.rows.items; scale = f.scale; folds = f.folds.items } };
+    ghost view = { λ f. record { from = f.from; to = f.to; cpus = f.cpus; threads = f.threads; rows = f.rows.items; lanes = f.lanes.items; sets = f.sets; scale = f.scale; folds = f.folds.items } };
 
     ghost invariant = { λ f. length f.folds.items ≤ 1000 };
 }
@@ -40,7 +43,32 @@ fn gap(n: u32) -> u64
     ensures value { result ≡ gap n }
     ensures bound { result < 2 ^ 40 }
 {
-    16 * (u64::from(n) / 40)
+    18 * (u64::from(n) / 40)
+}
+
+fn sum_of(lanes: &[u16]) -> u64
+    requires { length lanes.now < 2 ^ 32 }
+    ensures value { result ≡ sum lanes.now }
+    ensures bound { result < 2 ^ 48 }
+{
+    let mut sum: u64 = 0;
+    for x in lanes {
+        sum += u64::from(*x);
+    }
+    sum
+}
+
+// How many lanes the first rows have.
+fn first_lanes(lanes: &[u16], rows: u32) -> u64
+    ensures value { result ≡ sum (take rows lanes.now) }
+    ensures bound { result < 2 ^ 48 }
+{
+    let count = rows as usize;
+    if count < lanes.len() {
+        sum_of(&lanes[..count])
+    } else {
+        sum_of(lanes)
+    }
 }
 
 // A fold lies so near a tick, or nearer.
@@ -65,14 +93,6 @@ fn tick_of(from: u32, to: u32, n: u32) -> u32
     from + n
 }
 
-// So many rows of processors and of threads, without the numbers between them.
-fn height(cpus: u16, threads: u16) -> u64
-    ensures value { result ≡ 24 * cpus + 40 * threads }
-    ensures bound { result < 2 ^ 40 }
-{
-    24 * u64::from(cpus) + 40 * u64::from(threads)
-}
-
 impl Layout {
     /// How many ticks are drawn.
     pub fn shown(&self) -> u32
@@ -93,18 +113,20 @@ impl Layout {
     pub fn step(&self) -> u32
         ensures value { result ≡ step self.now }
         ensures some { 0 < result }
-        ensures bound { result < 101 }
+        ensures bound { result < 51 }
     {
-        if 20 <= self.scale {
-            5
+        if 50 <= self.scale {
+            1
+        } else if 25 <= self.scale {
+            2
         } else if 10 <= self.scale {
-            10
+            5
         } else if 5 <= self.scale {
-            20
+            10
         } else if 3 <= self.scale {
-            50
+            20
         } else {
-            100
+            50
         }
     }
 
@@ -135,18 +157,18 @@ impl Layout {
         self.place(to).saturating_sub(self.place(from))
     }
 
-    /// Where the text on a bar begins that begins with a tick.
+    /// Where the ground of a word begins that stands on a bar that begins with a tick.
     pub fn inside(&self, tick: u32) -> u64
         ensures { result ≡ inside self.now tick }
     {
-        152 + self.place(tick)
+        153 + self.place(tick)
     }
 
-    /// Where the priority stands that a thread has from a tick on: beside the line that may end there.
+    /// Where words begin that tell of what begins with a tick: beside a line that may end there.
     pub fn beside(&self, tick: u32) -> u64
         ensures { result ≡ beside self.now tick }
     {
-        155 + self.place(tick)
+        156 + self.place(tick)
     }
 
     /// A number of the axis has room where no fold lies near it.
@@ -166,25 +188,58 @@ impl Layout {
         }
     }
 
-    // How far a row lies below the first one; the rows of threads are higher.
+    // The height of the row of a processor, with its notes.
+    fn cpu_height(&self) -> u64
+        ensures value { result ≡ cpu_height self.now }
+        ensures bound { result < 41 }
+    {
+        if self.sets { 40 } else { 26 }
+    }
+
+    // How many lanes the first rows of threads have.
+    fn lanes_above(&self, t: u32) -> u64
+        ensures value { result ≡ lanes_above self.now t }
+        ensures bound { result < 2 ^ 48 }
+    {
+        first_lanes(&self.lanes, t)
+    }
+
+    // The height of all rows of processors.
+    fn cpus_height(&self) -> u64
+        ensures value { result ≡ cpus_height self.now }
+        ensures bound { result < 2 ^ 22 }
+    {
+        self.cpu_height() * u64::from(self.cpus)
+    }
+
+    // The height of so many rows of threads.
+    fn threads_height(&self, t: u32) -> u64
+        ensures value { result ≡ threads_height self.now t }
+        ensures bound { result < 2 ^ 53 }
+    {
+        48 * u64::from(t) + 16 * self.lanes_above(t)
+    }
+
+    // How far a row lies below the first one.
     fn lowered(&self, row: Row) -> u64
         ensures value { result ≡ lowered self.now row }
-        ensures bound { result < 2 ^ 48 }
+        ensures bound { result < 2 ^ 54 }
     {
         let gap = gap(self.number(row));
         match row {
-            Row::Cpu(c) => 24 * u64::from(c) + gap,
-            Row::Thread(t) => 24 * u64::from(self.cpus) + 40 * u64::from(t) + gap,
+            Row::Cpu(c) => self.cpu_height() * u64::from(c) + gap,
+            Row::Thread(t) => self.cpus_height() + self.threads_height(u32::from(t)) + gap,
         }
     }
 
     /// The top of the bars of a row.
     pub fn top(&self, row: Row) -> u64
-        ensures { result ≡ top self.now row }
+        ensures value { result ≡ top self.now row }
+        ensures bound { result < 2 ^ 55 }
     {
         match row {
-            Row::Cpu(_) => 128 + self.lowered(row),
-            Row::Thread(_) => 156 + self.lowered(row),
+            Row::Cpu(_) => 56 + self.lowered(row),
+            Row::Thread(_) => 76 + self.lowered(row),
         }
     }
 
@@ -193,8 +248,8 @@ impl Layout {
         ensures { result ≡ base self.now row }
     {
         match row {
-            Row::Cpu(_) => 139 + self.lowered(row),
-            Row::Thread(_) => 167 + self.lowered(row),
+            Row::Cpu(_) => 69 + self.lowered(row),
+            Row::Thread(_) => 89 + self.lowered(row),
         }
     }
 
@@ -203,8 +258,8 @@ impl Layout {
         ensures { result ≡ floor self.now row }
     {
         match row {
-            Row::Cpu(_) => 142 + self.lowered(row),
-            Row::Thread(_) => 170 + self.lowered(row),
+            Row::Cpu(_) => 74 + self.lowered(row),
+            Row::Thread(_) => 94 + self.lowered(row),
         }
     }
 
@@ -214,40 +269,75 @@ impl Layout {
     {
         let lowered = self.lowered(row);
         match row {
-            Row::Cpu(_) => (125 + lowered, 145 + lowered),
-            Row::Thread(_) => (153 + lowered, 173 + lowered),
+            Row::Cpu(_) => (53 + lowered, 77 + lowered),
+            Row::Thread(_) => (73 + lowered, 97 + lowered),
         }
     }
 
-    /// The base line of the notes under a row.
+    /// The base line of the note under the name of a row.
+    pub fn beneath(&self, row: Row) -> u64
+        ensures value { result ≡ beneath self.now row }
+        ensures bound { result < 2 ^ 55 }
+    {
+        match row {
+            Row::Cpu(_) => 87 + self.lowered(row),
+            Row::Thread(_) => 104 + self.lowered(row),
+        }
+    }
+
+    // How many lanes are under the row of a thread.
+    fn own_lanes(&self, t: u16) -> u64
+        ensures value { result ≡ lanes_above self.now (t + 1) - lanes_above self.now t }
+        ensures bound { result < 2 ^ 48 }
+    {
+        let t = u32::from(t);
+        self.lanes_above(t + 1).saturating_sub(self.lanes_above(t))
+    }
+
+    /// The base line of the notes under a row, which is below the lanes of a thread.
     pub fn under(&self, row: Row) -> u64
         ensures { result ≡ under self.now row }
     {
         match row {
-            Row::Cpu(_) => 150 + self.lowered(row),
-            Row::Thread(_) => 179 + self.lowered(row),
+            Row::Cpu(_) => self.beneath(row),
+            Row::Thread(t) => self.beneath(row) + 16 * self.own_lanes(t),
         }
+    }
+
+    /// The top of a lane under the row of a thread. There is room for eight.
+    pub fn lane_top(&self, t: u16, lane: usize) -> u64
+        ensures { result ≡ lane_top self.now t lane }
+    {
+        96 + self.lowered(Row::Thread(t)) + 16 * lane.min(7) as u64
+    }
+
+    /// The base line of the names on a lane.
+    pub fn lane_base(&self, t: u16, lane: usize) -> u64
+        ensures { result ≡ lane_base self.now t lane }
+    {
+        107 + self.lowered(Row::Thread(t)) + 16 * lane.min(7) as u64
     }
 
     /// The base line of the priorities of a thread, above its bars.
     pub fn above(&self, t: u16) -> u64
         ensures { result ≡ above self.now t }
     {
-        152 + self.lowered(Row::Thread(t))
+        71 + self.lowered(Row::Thread(t))
     }
 
     /// The top of the priorities of a thread.
     pub fn over(&self, t: u16) -> u64
-        ensures { result ≡ over self.now t }
+        ensures value { result ≡ over self.now t }
+        ensures bound { result < 2 ^ 55 }
     {
-        142 + self.lowered(Row::Thread(t))
+        60 + self.lowered(Row::Thread(t))
     }
 
     /// Where the arrow begins that is the one of this number, from 0, among those of a tick.
     pub fn shifted(&self, tick: u32, nth: u64) -> u64
         ensures { result ≡ shifted self.now tick nth }
     {
-        150 + self.place(tick) + 4 * (nth % 8)
+        150 + self.place(tick) + 5 * (nth % 8)
     }
 
     // The number of the last row.
@@ -272,9 +362,9 @@ impl Layout {
     {
         let cpus = u32::from(self.cpus);
         if n < cpus {
-            124 + 24 * u64::from(n) + gap(n)
+            50 + self.cpu_height() * u64::from(n) + gap(n)
         } else {
-            138 + 24 * u64::from(cpus) + 40 * u64::from(n - cpus) + gap(n)
+            56 + self.cpus_height() + self.threads_height(n - cpus) + gap(n)
         }
     }
 
@@ -289,23 +379,24 @@ impl Layout {
     /// The lower edge of the last row.
     pub fn bottom(&self) -> u64
         ensures value { result ≡ bottom self.now }
-        ensures bound { result < 2 ^ 48 }
+        ensures bound { result < 2 ^ 54 }
     {
-        146 + height(self.cpus, self.threads) + gap(self.last_row())
+        let rows = self.cpus_height() + self.threads_height(u32::from(self.threads));
+        62 + rows + gap(self.last_row())
     }
 
     /// How far the last row reaches below the axis.
     pub fn depth(&self) -> u64
         ensures { result ≡ depth self.now }
     {
-        self.bottom().saturating_sub(118)
+        self.bottom().saturating_sub(50)
     }
 
     /// The width of the picture.
     pub fn total_width(&self) -> u64
         ensures { result ≡ total_width self.now }
     {
-        (240 + self.place(self.to)).max(920)
+        (280 + self.place(self.to)).max(1040)
     }
 
     /// Whether a tick is drawn, or ends what is drawn.

@@ -10,7 +10,7 @@ mod marks;
 mod rows;
 
 pub use folds::Column;
-pub use frames::Frame;
+pub use frames::{Frame, last_act};
 pub use laws::{acting_threads_come_first, folds_are_quiet, rows_are_own};
 pub use layouts::{Layout, Row};
 pub use rows::layout_of;

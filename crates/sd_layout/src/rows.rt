@@ -1,13 +1,14 @@
 //! Which threads have a row, and in which order.
 
-ghost use Rattle.std.specs.Prelude.{◌≡◌, ◌++◌, ◌∷◌, [], IfOk, OnOk, filter, length, not, if◌then◌else◌};
+ghost use Rattle.std.specs.Prelude.{◌≡◌, ◌++◌, ◌∷◌, [], IfOk, OnOk, filter, length, map, not, if◌then◌else◌};
 ghost use Rattle.std.specs.List.{list_any, range_with_len};
 ghost use Rattle.sd_state.specs.States.{thread_numbers};
-ghost use Rattle.sd_layout.specs.Rows.{acts, begins_in, is_deed, layout_of, ordered, rows_of, runs_in};
+ghost use Rattle.sd_layout.specs.Rows.{acts, begins_in, is_deed, lanes_of, layout_of, ordered, rows_of, runs_in};
 
 use crate::folds::{folds, scale_of};
 use crate::frames::Frame;
 use crate::layouts::Layout;
+use sd_holds::{Hold, bands, most_lanes};
 use sd_stretches::{ByThread, Stretch, does_run, stretches};
 use sd_types::Work;
 use std::alloc::{AllocError, Global};
@@ -118,16 +119,42 @@ fn rows_of(
     Ok(rows)
 }
 
-/// What is drawn of a run of the workload.
+// How many lanes the holds of a thread need.
+fn lanes_of(alloc: Global, frame: Frame, holds: &[Hold], t: usize) -> Result<u16, AllocError>
+    ensures { IfOk result (λ n. n ≡ lanes_of frame holds.now t) }
+{
+    let own = bands(alloc, holds, t, frame.from, frame.to)?;
+    Ok(most_lanes(&own))
+}
+
+// Those of these threads.
+fn all_lanes(
+    alloc: Global,
+    frame: Frame,
+    holds: &[Hold],
+    threads: &[usize],
+) -> Result<Vec<u16>, AllocError>
+    ensures { IfOk result (λ v. v.items ≡ map (lanes_of frame holds.now) threads.now) }
+{
+    let mut lanes = Vec::new(alloc);
+    for t in threads {
+        lanes.push(lanes_of(alloc, frame, holds, *t)?)?;
+    }
+    Ok(lanes)
+}
+
+/// What is drawn of a run of the workload, with these holds of locks.
 pub fn layout_of(
     alloc: Global,
     work: &Work,
     frame: Frame,
     history: &ByThread,
+    holds: &[Hold],
 ) -> Result<Layout, AllocError>
-    ensures { IfOk result (λ layout. layout ≡ layout_of work.now frame history.now) }
+    ensures { IfOk result (λ layout. layout ≡ layout_of work.now frame history.now holds.now) }
 {
     let rows = rows_of(alloc, work, frame, history)?;
+    let lanes = all_lanes(alloc, frame, holds, &rows)?;
     let folds = folds(alloc, frame, &history.history)?;
     let scale = scale_of(frame, &folds);
     Ok(Layout {
@@ -136,6 +163,8 @@ pub fn layout_of(
         cpus: frame.cpus,
         threads: frame.threads,
         rows,
+        lanes,
+        sets: !work.sets.items().is_empty(),
         scale,
         folds,
     })
