@@ -100,6 +100,10 @@ abbrev pub floor : Layout → Row → ℕ
 floor f (Cpu c) = 74 + lowered f (Cpu c)
 floor f (Thread t) = 94 + lowered f (Thread t)
 
+-- the lower edge of the lanes of a thread
+abbrev pub landing : Layout → ℕ → ℕ
+landing f t = floor f (Thread t) + 16 * (lanes_above f (t + 1) - lanes_above f t)
+
 -- from where to where a line across the bars of a row goes
 abbrev pub across : Layout → Row → ℕ × ℕ
 across f (Cpu c) = (53 + lowered f (Cpu c), 77 + lowered f (Cpu c))

@@ -2,7 +2,7 @@
 
 ghost use Rattle.std.specs.Prelude.{◌≡◌, ◌+◌, ◌-◌, ◌*◌, ◌<◌, ◌≤◌, ◌^◌, ◌==◌, length, sum, take};
 ghost use Rattle.std.specs.List.{list_any, position};
-ghost use Rattle.sd_layout.specs.Layouts.{Layout as LayoutValue, above, across, axes, axis_base, base, beneath, beside, between_rows, bottom, column, cpu_height, cpus_height, depth, floor, gap, inside, is_clear, is_near, lane_base, lane_top, lanes_above, last_row, lowered, number, over, place, row_if, row_of, shifted, shown, shows, step, threads_height, top, total_width, under, width};
+ghost use Rattle.sd_layout.specs.Layouts.{Layout as LayoutValue, above, across, axes, axis_base, base, beneath, beside, between_rows, bottom, column, cpu_height, cpus_height, depth, floor, gap, inside, is_clear, is_near, landing, lane_base, lane_top, lanes_above, last_row, lowered, number, over, place, row_if, row_of, shifted, shown, shows, step, threads_height, top, total_width, under, width};
 
 use crate::folds::{Column, place_from};
 use std::marker::Model;
@@ -292,6 +292,13 @@ impl Layout {
     {
         let t = u32::from(t);
         self.lanes_above(t + 1).saturating_sub(self.lanes_above(t))
+    }
+
+    /// The lower edge of the lanes of a thread.
+    pub fn landing(&self, t: u16) -> u64
+        ensures { result ≡ landing self.now t }
+    {
+        94 + self.lowered(Row::Thread(t)) + 16 * self.own_lanes(t)
     }
 
     /// The base line of the notes under a row, which is below the lanes of a thread.

@@ -1,6 +1,6 @@
 -- Which bytes pictures are made of.
-use Rattle.std.proofs.Common.{ℕ, ◌+◌, ◌-◌, ◌%◌, Bool, true, false, ◌&&◌, eqb, ltb, List, [], ◌∷◌, ◌++◌, length, Option, Some, None, refl, ◌∙◌}
-use Rattle.std.specs.Prelude.{codes, slice_get}
+use Rattle.std.proofs.Common.{ℕ, ◌+◌, ◌-◌, ◌*◌, ◌%◌, Bool, true, false, ◌&&◌, eqb, ltb, List, [], ◌∷◌, ◌++◌, length, Option, Some, None, refl, ◌∙◌}
+use Rattle.std.specs.Prelude.{codes, slice_get, if◌then◌else◌}
 use Rattle.std.specs.List.{flat_map, range_with_len}
 use Rattle.std.proofs.lemmas.List.Folds.{list_all-append}
 use Rattle.sd_types.specs.declared.numbers.CpuId.{CpuId}
@@ -36,20 +36,32 @@ use Rattle.sd_layout.specs.declared.layouts.Row.{Row}
 use Rattle.sd_layout.specs.declared.layouts.Row.TheVariants.{Cpu, Thread}
 use Rattle.sd_layout.specs.declared.folds.Column.{Column}
 use Rattle.sd_layout.specs.declared.frames.Frame.{Frame}
-use Rattle.sd_layout.specs.Layouts.{Layout, above, across, axes, axis_base, base, beside, bottom, column, depth, floor, inside, is_clear, over, row_of, shifted, shown, shows, step, top, under, width}
+use Rattle.sd_layout.specs.Layouts.{Layout, above, across, axes, axis_base, base, beneath, beside, bottom, column, depth, floor, inside, is_clear, lane_base, lane_top, over, row_of, shifted, shown, shows, step, top, under, width}
+use Rattle.sd_layout.specs.Frames.{last_act}
+use Rattle.sd_holds.specs.declared.banding.Band.{Band}
+use Rattle.sd_holds.specs.declared.holdings.Hold.{Hold}
+use Rattle.sd_holds.specs.Bands.{bands}
 use Rattle.sd_timeline.specs.declared.legend.Key.{Key}
 use Rattle.sd_timeline.specs.declared.legend.Key.TheVariants as key
 use Rattle.sd_timeline.specs.declared.legend.Shape.{Shape}
 use Rattle.sd_timeline.specs.declared.legend.Shape.TheVariants as shape
-use Rattle.sd_timeline.specs.Pieces.{attribute, box_text, ends_text, path_ends, path_start, bar_start, label_start, word_label, number_label, grid_line}
-use Rattle.sd_timeline.specs.Bars.{bar_text, between, cpu_word, doing_class, fits, on_bar, on_thread_bar, place_text, run_bar, run_bar_by, stretch_bar, stretch_title, times_text, word_text}
+use Rattle.sd_timeline.specs.Pieces.{attribute, box_text, ends_text, path_ends, path_start, bar_start, cover, label_start, word_label, number_label, grid_line}
+use Rattle.sd_timeline.specs.declared.colours.Colour.{Colour}
+use Rattle.sd_timeline.specs.declared.colours.Colour.TheVariants.{Blue}
+use Rattle.sd_timeline.specs.declared.colours.Texture.{Texture}
+use Rattle.sd_timeline.specs.declared.colours.Texture.TheVariants.{Plain, Dots, Rising, Falling}
+use Rattle.sd_timeline.specs.declared.bars.Spot.{Spot}
+use Rattle.sd_timeline.specs.Colours.{colour_name, colour_of, run_class, spin_class, texture_cover, texture_of}
+use Rattle.sd_timeline.specs.Bars.{bar_box, bar_class, bar_drop, bar_height, bar_text, between, cpu_on, cpu_word, fits, letter_ground, on_bar, on_cpu_bar, on_thread_bar, over_bar, place_text, run_bar, run_bar_by, spot_of, stretch_bar, stretch_title, times_text, word_on, word_text}
+use Rattle.sd_timeline.specs.Held.{band_text, bands_text, held_title, held_words, lock_word}
+use Rattle.sd_timeline.specs.Style.{colours, forms, letters, lines, page, patterns, state_patterns, stripes, style, textures, thread_patterns, tips}
 use Rattle.sd_timeline.specs.Arrows.{arrow_start, hand_path, hand_rows, hand_text, hand_texts, hand_title, heights, is_drawn_wake, nth_at, waiter_text, wake_by, wake_path, wake_rows, wake_text, wake_title}
-use Rattle.sd_timeline.specs.Labels.{fold_text, fold_title, has_room, inherited_level, inherited_word, level_area, level_label, level_text, level_title, many_text, mark_at, mark_text, own_level, some_level}
-use Rattle.sd_timeline.specs.Legend.{Drawn, box_key, class_of, drawn_of, key_at, key_if, key_text, keys_of, keys_text, legend_text, line_key, sample_key, sample_of, shape_of, slot_x, slot_y, words_of}
+use Rattle.sd_timeline.specs.Labels.{fold_text, fold_title, has_room, inherited_level, inherited_word, level_area, level_label, level_text, level_title, many_text, mark_at, mark_text, own_level, raised_line, some_level, whole_level}
+use Rattle.sd_timeline.specs.Legend.{Drawn, box_key, class_of, drawn_of, key_at, key_box, key_drop, key_height, key_if, key_line, key_text, key_words, keys_of, keys_text, line_key, lines_of, sample_class, sample_key, sample_of, shape_of, slot_x, slot_y, word_key, words_of}
 use Rattle.sd_timeline.specs.Moments.{cpu_moment, is_moment, moment_line, moment_lines, moment_text, thread_moment}
 use Rattle.sd_timeline.specs.Notes.{assign_note, bind_note, bound_words, note_by, note_text, set_note, set_words, thread_note}
-use Rattle.sd_timeline.specs.Head.{axis, bound_label, counts_text, cpu_head, dark_colours, description, file_title, fold_marks, hatch, head, heading, hint, inner_number, letters, light_colours, lines, mark, mark_if, measures, opened, page, rowless, rowless_text, set_label, size, small_letters, start, style, thin_lines, thread_head, ticks_text, view_box}
-use Rattle.sd_timeline.specs.Picture.{bound_of, ground_text, laid_out, marks_text, own_row, row_text, rows_text, thread_text, timeline_text}
+use Rattle.sd_timeline.specs.Head.{axis, bound_label, counts_text, cpu_head, description, file_title, fold_marks, head, heading, inner_number, mark, mark_if, measures, opened, rowless, rowless_text, set_label, size, start, swatch, thread_head, ticks_text, view_box}
+use Rattle.sd_timeline.specs.Picture.{bound_of, frame_text, ground_text, laid_out, marks_text, own_row, row_text, rows_text, shown_holds, thread_text, timeline_text, with_holds}
 use Rattle.sd_layout.specs.Rows.{layout_of}
 use Rattle.sd_timeline.specs.Plain.{HasPlainTitles}
 
@@ -58,6 +70,10 @@ use Rattle.sd_timeline.specs.Plain.{HasPlainTitles}
 bar-start-text : (class : List ℕ) (x y width height : ℕ) → IsText class → IsText (bar_start class x y width height)
 unfolding bar_start box_text attribute
 bar-start-text class x y width height h = simp (list_all-append is_text_byte, h, decimal-text)
+
+cover-text : (class : List ℕ) (x y width height : ℕ) → IsText class → IsText (cover class x y width height)
+unfolding cover box_text attribute
+cover-text class x y width height h = simp (list_all-append is_text_byte, h, decimal-text)
 
 label-start-text : (class : List ℕ) (x y : ℕ) → IsText class → IsText (label_start class x y)
 unfolding label_start attribute
@@ -82,9 +98,28 @@ path-start-text class column heights h = simp (list_all-append is_text_byte, h, 
 
 -- ---- bars
 
-class-text : (d : Doing) → IsText (doing_class d)
-class-text (Running c) = refl
-class-text d = refl
+colour-text : (c : Colour) → IsText (colour_name c)
+colour-text Blue = refl
+colour-text c = refl
+
+run-class-text : (c : Colour) → IsText (run_class c)
+run-class-text Blue = refl
+run-class-text c = refl
+
+spin-class-text : (c : Colour) → IsText (spin_class c)
+spin-class-text Blue = refl
+spin-class-text c = refl
+
+texture-text : (x : Texture) (left top width height : ℕ) → IsText (texture_cover x left top width height)
+texture-text Plain left top width height = refl
+texture-text Dots left top width height = cover-text (codes "dots") left top width height refl
+texture-text Rising left top width height = cover-text (codes "rising") left top width height refl
+texture-text Falling left top width height = cover-text (codes "falling") left top width height refl
+
+class-text : (t : ℕ) (d : Doing) → IsText (bar_class t d)
+class-text t (Running c) = run-class-text (colour_of t)
+class-text t (Spinning c l) = spin-class-text (colour_of t)
+class-text t d = refl
 
 bar-title : (w : Work) (x : Stretch) → IsPlain (stretch_title w x)
 unfolding stretch_title place_text times_text between
@@ -93,31 +128,64 @@ bar-title w x = simp (list_all-append is_plain_byte, thread-plain w x.thread, do
 title-text : (w : Work) (x : Stretch) → IsText (stretch_title w x)
 title-text w x = plain-text (stretch_title w x) (bar-title w x)
 
-word-text : (class : List ℕ) (x y width : ℕ) (word : List ℕ) → IsText class → IsText word → IsText (word_text class x y width word)
-word-text class x y width word p q = either-text (fits (length word) width) (word_label class x y word) [] (word-label-text class x y word p q) refl
+ground-text : (class : List ℕ) (p : Spot) (len : ℕ) → IsText class → IsText (letter_ground class p len)
+ground-text class p len h = cover-text class p.ground p.top (8 * len + 6) 14 h
 
-cpu-text : (x y width : ℕ) (c : CpuId) → IsText (cpu_word x y width c)
-cpu-text x y width c = either-text (fits 2 width) (number_label (codes "on") x y [] c.0) [] (number-label-text (codes "on") x y [] c.0 refl refl) refl
+word-on-text : (ground class : List ℕ) (p : Spot) (word : List ℕ) → IsText ground → IsText class → IsText word → IsText (word_on ground class p word)
+unfolding word_on
+word-on-text ground class p word g h k =
+    append-text (letter_ground ground p (length word)) (word_label class p.words p.base word) (ground-text ground p (length word) g)
+    (word-label-text class p.words p.base word h k)
 
-on-thread-text : (w : Work) (x y width : ℕ) (d : Doing) → IsText (on_thread_bar w x y width d)
-on-thread-text w x y width (Running c) = cpu-text x y width c
-on-thread-text w x y width (Spinning c l) = word-text (codes "on") x y width (lock_name w l.0) refl (lock-text w l.0)
-on-thread-text w x y width Runnable = refl
-on-thread-text w x y width (Waiting l) = word-text (codes "on") x y width (lock_name w l.0) refl (lock-text w l.0)
-on-thread-text w x y width (Asleep k) = word-text (codes "in") x y width (chan_name w k.0) refl (chan-text w k.0)
-on-thread-text w x y width Napping = refl
-on-thread-text w x y width Ended = refl
+word-text : (ground class : List ℕ) (p : Spot) (word : List ℕ) → IsText ground → IsText class → IsText word → IsText (word_text ground class p word)
+word-text ground class p word g h k = either-text (fits (length word) p.width) (word_on ground class p word) [] (word-on-text ground class p word g h k) refl
+
+cpu-on-text : (t : ℕ) (p : Spot) (len : ℕ) (word : List ℕ) (c : CpuId) → IsText word → IsText (cpu_on t p len word c)
+unfolding cpu_on
+cpu-on-text t p len word c h =
+    append-text (letter_ground (colour_name (colour_of t)) p len) (number_label (codes "on") p.words p.base word c.0)
+    (ground-text (colour_name (colour_of t)) p len (colour-text (colour_of t))) (number-label-text (codes "on") p.words p.base word c.0 refl h)
+
+cpu-short-text : (t : ℕ) (p : Spot) (c : CpuId) → IsText (if fits 2 p.width then cpu_on t p 2 [] c else [])
+cpu-short-text t p c = either-text (fits 2 p.width) (cpu_on t p 2 [] c) [] (cpu-on-text t p 2 [] c refl) refl
+
+cpu-text : (t : ℕ) (p : Spot) (c : CpuId) → IsText (cpu_word t p c)
+cpu-text t p c =
+    either-text (fits 6 p.width) (cpu_on t p 6 (codes "cpu ") c) (if fits 2 p.width then cpu_on t p 2 [] c else []) (cpu-on-text t p 6 (codes "cpu ") c refl)
+    (cpu-short-text t p c)
+
+on-cpu-text : (w : Work) (p : Spot) (x : Stretch) (d : Doing) → IsText (on_cpu_bar w p x d)
+on-cpu-text w p x (Running c) =
+    word-text (colour_name (colour_of x.thread)) (codes "on") p (thread_name w x.thread) (colour-text (colour_of x.thread)) refl (thread-text w x.thread)
+on-cpu-text w p x d = word-text (codes "plate") (codes "in") p (thread_name w x.thread) refl refl (thread-text w x.thread)
+
+on-thread-text : (w : Work) (p : Spot) (t : ℕ) (d : Doing) → IsText (on_thread_bar w p t d)
+on-thread-text w p t (Running c) = cpu-text t p c
+on-thread-text w p t (Spinning c l) = word-text (codes "plate") (codes "in") p (lock_name w l.0) refl refl (lock-text w l.0)
+on-thread-text w p t Runnable = refl
+on-thread-text w p t (Waiting l) = word-text (codes "plate") (codes "in") p (lock_name w l.0) refl refl (lock-text w l.0)
+on-thread-text w p t (Asleep k) = word-text (codes "plate") (codes "in") p (chan_name w k.0) refl refl (chan-text w k.0)
+on-thread-text w p t Napping = refl
+on-thread-text w p t Ended = word-text (codes "plate") (codes "note") p (codes "ended") refl refl refl
 
 on-text : (w : Work) (f : Layout) (row : Row) (x : Stretch) → IsText (on_bar w f row x)
-on-text w f (Cpu c) x =
-    word-text (codes "on") (inside f x.from) (base f (Cpu c)) (width f x.from x.to) (thread_name w x.thread) refl (thread-text w x.thread)
-on-text w f (Thread t) x = on-thread-text w (inside f x.from) (base f (Thread t)) (width f x.from x.to) x.doing
+on-text w f (Cpu c) x = on-cpu-text w (spot_of f (Cpu c) x) x x.doing
+on-text w f (Thread t) x = on-thread-text w (spot_of f (Thread t) x) x.thread x.doing
+
+over-text : (f : Layout) (row : Row) (x : Stretch) (d : Doing) → IsText (over_bar f row x d)
+over-text f row x (Running c) = texture-text (texture_of x.thread) (column f x.from) (top f row) (width f x.from x.to) 18
+over-text f row x Ended = cover-text (codes "stop") (column f x.from) (top f row + 4) 2 10 refl
+over-text f row x d = refl
+
+box-text : (w : Work) (f : Layout) (row : Row) (x : Stretch) → IsText (bar_box w f row x)
+unfolding bar_box
+box-text w f row x =
+    let begins = bar-start-text (bar_class x.thread x.doing) (column f x.from) (top f row + bar_drop x.doing) (width f x.from x.to) (bar_height x.doing) (class-text x.thread x.doing) in
+    simp (list_all-append is_text_byte, begins, title-text w x)
 
 whole-text : (w : Work) (f : Layout) (row : Row) (x : Stretch) → IsText (bar_text w f row x)
 unfolding bar_text
-whole-text w f row x =
-    let begins = bar-start-text (doing_class x.doing) (column f x.from) (top f row) (width f x.from x.to) 14 (class-text x.doing) in
-    simp (list_all-append is_text_byte, begins, title-text w x, on-text w f row x)
+whole-text w f row x = simp (list_all-append is_text_byte, box-text w f row x, over-text f row x x.doing, on-text w f row x)
 
 bar-text : (w : Work) (f : Layout) (row : Row) (x : Stretch) → IsText (stretch_bar w f row x)
 bar-text w f row x = either-text (eqb (width f x.from x.to) 0) [] (bar_text w f row x) refl (whole-text w f row x)
@@ -137,7 +205,7 @@ own-level-text f t x = number-label-text (codes "own") (beside f x.from) (above 
 
 inherited-level-text : (f : Layout) (t : ℕ) (x : Level) → IsText (inherited_level f t x)
 inherited-level-text f t x =
-    either-text (ltb (width f x.from x.to) 30)
+    either-text (ltb (width f x.from x.to) 46)
     (word_label (codes "inherited") (beside f x.from) (above f t) (codes "&#9650;"))
     (number_label (codes "inherited") (beside f x.from) (above f t) (codes "&#9650;") x.priority)
     (word-label-text (codes "inherited") (beside f x.from) (above f t) (codes "&#9650;") refl refl)
@@ -160,14 +228,44 @@ level-title-text x = simp (list_all-append is_text_byte, decimal-text, inherited
 level-area-text : (f : Layout) (t : ℕ) (x : Level) → IsText (level_area f t x)
 unfolding level_area
 level-area-text f t x =
-    let begins = bar-start-text (codes "level") (column f x.from) (over f t) (width f x.from x.to) 12 refl in
+    let begins = bar-start-text (codes "level") (column f x.from) (over f t) (width f x.from x.to) 13 refl in
     simp (list_all-append is_text_byte, begins, level-title-text x)
 
-level-both-text : (f : Layout) (t : ℕ) (x : Level) → IsText (level_label f t x ++ level_area f t x)
-level-both-text f t x = append-text (level_label f t x) (level_area f t x) (level-label-text f t x) (level-area-text f t x)
+raised-text : (f : Layout) (t : ℕ) (x : Level) → IsText (raised_line f t x)
+raised-text f t x =
+    either-text x.inherited (cover (codes "raised") (column f x.from) (over f t + 13) (width f x.from x.to) 2) []
+    (cover-text (codes "raised") (column f x.from) (over f t + 13) (width f x.from x.to) 2 refl) refl
+
+whole-level-text : (f : Layout) (t : ℕ) (x : Level) → IsText (whole_level f t x)
+unfolding whole_level
+whole-level-text f t x = simp (list_all-append is_text_byte, level-label-text f t x, raised-text f t x, level-area-text f t x)
 
 level-text : (f : Layout) (t : ℕ) (x : Level) → IsText (level_text f t x)
-level-text f t x = either-text (eqb (width f x.from x.to) 0) [] (level_label f t x ++ level_area f t x) refl (level-both-text f t x)
+level-text f t x = either-text (eqb (width f x.from x.to) 0) [] (whole_level f t x) refl (whole-level-text f t x)
+
+-- ---- holds
+
+held-title : (w : Work) (x : Hold) → IsPlain (held_title w x)
+unfolding held_title held_words between
+held-title w x = simp (list_all-append is_plain_byte, thread-plain w x.thread.0, lock-plain w x.lock.0, decimal-plain)
+
+lock-word-text : (w : Work) (f : Layout) (row : ℕ) (b : Band) → IsText (lock_word w f row b)
+lock-word-text w f row b =
+    let name = lock_name w b.hold.lock.0 in
+    either-text (fits (length name) (width f b.hold.from b.hold.to)) (word_label (codes "held") (beside f b.hold.from) (lane_base f row b.lane) name) []
+    (word-label-text (codes "held") (beside f b.hold.from) (lane_base f row b.lane) name refl (lock-text w b.hold.lock.0)) refl
+
+band-text : (w : Work) (f : Layout) (row : ℕ) (b : Band) → IsText (band_text w f row b)
+unfolding band_text
+band-text w f row b =
+    let begins = bar-start-text (codes "hold") (column f b.hold.from) (lane_top f row b.lane) (width f b.hold.from b.hold.to) 13 refl in
+    let title = plain-text (held_title w b.hold) (held-title w b.hold) in
+    simp (list_all-append is_text_byte, begins, title, lock-word-text w f row b)
+
+bands-text : (w : Work) (f : Layout) (holds : List Hold) (t row : ℕ) → IsText (bands_text w f holds t row)
+bands-text w f holds t row = flat-text (band_text w f row) (band-text w f row) (bands t f.from f.to holds)
+
+-- ---- arrows
 
 arrow-title : (w : Work) (x : HandOver) (waiter : ℕ) → IsPlain (hand_title w x waiter)
 unfolding hand_title waiter_text
@@ -179,7 +277,7 @@ unfolding wake_title
 wake-title w x waker = simp (list_all-append is_plain_byte, thread-plain w waker, thread-plain w x.woken.0, decimal-plain)
 
 pub plain_titles : (w : Work) → HasPlainTitles w
-plain_titles w = record { bars = bar-title w; arrows = arrow-title w; wakeups = wake-title w }
+plain_titles w = record { bars = bar-title w; holds = held-title w; arrows = arrow-title w; wakeups = wake-title w }
 
 arrow-start-text : (class : List ℕ) (column : ℕ) (f : Layout) (from to : ℕ) → IsText class → IsText (arrow_start class column f from to)
 unfolding arrow_start
@@ -295,7 +393,7 @@ fold-title-text x = simp (list_all-append is_text_byte, decimal-text)
 fold-text : (f : Layout) (x : Column) → IsText (fold_text f x)
 unfolding fold_text
 fold-text f x =
-    let begins = bar-start-text (codes "page") (column f x.from) 118 (width f x.from x.to) (depth f) refl in
+    let begins = bar-start-text (codes "gap") (column f x.from) 50 (width f x.from x.to) (depth f) refl in
     simp (list_all-append is_text_byte, begins, fold-title-text x)
 
 mark-at-text : (f : Layout) (row : Option ℕ) → IsText (mark_at f row)
@@ -324,20 +422,25 @@ unfolding description
 description-text w f = simp (list_all-append is_text_byte, ticks-text w f)
 
 style-text : IsText style
-unfolding style lines thin_lines dark_colours light_colours letters small_letters
+unfolding style letters lines forms colours stripes
 style-text = refl
 
-size-text : (f : Layout) → IsText (size f)
+patterns-text : IsText patterns
+unfolding patterns thread_patterns state_patterns textures tips
+patterns-text = refl
+
+page-text : IsText page
+unfolding page
+page-text = refl
+
+size-text : (f : Layout) (many : ℕ) → IsText (size f many)
 unfolding size measures view_box attribute
-size-text f = simp (list_all-append is_text_byte, decimal-text)
+size-text f many = simp (list_all-append is_text_byte, decimal-text)
 
-start-text : (w : Work) (f : Layout) → IsText (start w f)
-unfolding start opened hatch page
-start-text w f = simp (list_all-append is_text_byte, size-text f, file-title-text w, description-text w f, style-text)
-
-heading-text : (w : Work) (f : Layout) → IsText (heading w f)
-unfolding heading
-heading-text w f = simp (list_all-append is_text_byte, label-start-text (codes "head") 150 18 refl, ticks-text w f, counts-text w)
+start-text : (w : Work) (f : Layout) (many : ℕ) → IsText (start w f many)
+unfolding start opened
+start-text w f many =
+    simp (list_all-append is_text_byte, size-text f many, file-title-text w, description-text w f, style-text, patterns-text, page-text)
 
 many-rowless-text : (n : ℕ) → IsText (rowless_text n)
 unfolding rowless_text
@@ -347,9 +450,9 @@ rowless-text : (w : Work) (f : Layout) → IsText (rowless w f)
 rowless-text w f =
     either-text (ltb f.threads (length w.threads)) (rowless_text (length w.threads - f.threads)) [] (many-rowless-text (length w.threads - f.threads)) refl
 
-hint-text : (w : Work) (f : Layout) → IsText (hint w f)
-unfolding hint
-hint-text w f = simp (list_all-append is_text_byte, label-start-text (codes "key") 150 34 refl, rowless-text w f)
+heading-text : (w : Work) (f : Layout) → IsText (heading w f)
+unfolding heading
+heading-text w f = simp (list_all-append is_text_byte, label-start-text (codes "head") 20 20 refl, ticks-text w f, counts-text w, rowless-text w f)
 
 inner-number-text : (f : Layout) (tick k : ℕ) → IsText (inner_number f tick k)
 unfolding inner_number
@@ -360,8 +463,8 @@ unfolding mark
 tick-text f tick =
     simp (
       list_all-append is_text_byte,
-      line-text (codes "grid") (column f tick, 118) (column f tick, bottom f) refl,
-      number-label-text (codes "tick") (column f tick) 113 [] tick refl refl,
+      line-text (codes "grid") (column f tick, 50) (column f tick, bottom f) refl,
+      number-label-text (codes "tick") (column f tick) 44 [] tick refl refl,
       number-label-text (codes "tick") (column f tick) (bottom f + 14) [] tick refl refl,
       flat-text (inner_number f tick) (inner-number-text f tick) (range_with_len 0 (axes f)),
     )
@@ -378,6 +481,7 @@ unfolding axis
 axis-text f =
     simp (
       list_all-append is_text_byte,
+      word-label-text (codes "side") 126 44 (codes "tick") refl refl,
       flat-text (mark_if f) (tick-text-if f) (range_with_len 0 (shown f)),
       tick-text-if f (shown f),
       flat-text (fold_marks f) (fold-marks-text f) f.folds,
@@ -386,8 +490,8 @@ axis-text f =
 set-label-text : (w : Work) (f : Layout) (c set : ℕ) → IsText (set_label w f c set)
 unfolding set_label
 set-label-text w f c set =
-    either-text (eqb set 0) [] (word_label (codes "name note") 142 (under f (Cpu c)) (set_name w set)) refl
-    (word-label-text (codes "name note") 142 (under f (Cpu c)) (set_name w set) refl (set-text w set))
+    either-text (eqb set 0) [] (word_label (codes "side") 126 (beneath f (Cpu c)) (set_name w set)) refl
+    (word-label-text (codes "side") 126 (beneath f (Cpu c)) (set_name w set) refl (set-text w set))
 
 cpu-head-text : (w : Work) (f : Layout) (c : ℕ) → IsText (cpu_head w f c)
 unfolding cpu_head
@@ -395,26 +499,33 @@ cpu-head-text w f c =
     simp (
       list_all-append is_text_byte,
       set-label-text w f c (set_of_cpu w c),
-      number-label-text (codes "name") 142 (base f (Cpu c)) (codes "processor ") c refl refl,
+      number-label-text (codes "name") 126 (base f (Cpu c)) (codes "processor ") c refl refl,
       line-text (codes "base") (150, floor f (Cpu c)) (column f f.to, floor f (Cpu c)) refl,
     )
 
+swatch-text : (f : Layout) (row t : ℕ) → IsText (swatch f row t)
+swatch-text f row t =
+    append-text (cover (colour_name (colour_of t)) 131 (top f (Thread row) + 3) 12 12) (texture_cover (texture_of t) 131 (top f (Thread row) + 3) 12 12)
+    (cover-text (colour_name (colour_of t)) 131 (top f (Thread row) + 3) 12 12 (colour-text (colour_of t)))
+    (texture-text (texture_of t) 131 (top f (Thread row) + 3) 12 12)
+
 thread-head-text : (w : Work) (f : Layout) (row t : ℕ) → IsText (thread_head w f row t)
 unfolding thread_head
-thread-head-text w f row t = simp (list_all-append is_text_byte, label-start-text (codes "name") 142 (base f (Thread row)) refl, thread-text w t)
+thread-head-text w f row t =
+    append-text (word_label (codes "name") 126 (base f (Thread row)) (thread_name w t)) (swatch f row t)
+    (word-label-text (codes "name") 126 (base f (Thread row)) (thread_name w t) refl (thread-text w t)) (swatch-text f row t)
 
 bound-label-text : (f : Layout) (row : ℕ) (bound : Option CpuId) → IsText (bound_label f row bound)
 bound-label-text f row None = refl
-bound-label-text f row (Some c) = number-label-text (codes "name note") 142 (under f (Thread row)) (codes "bound to ") c.0 refl refl
+bound-label-text f row (Some c) = number-label-text (codes "side") 126 (beneath f (Thread row)) (codes "bound to ") c.0 refl refl
 
-head-text : (w : Work) (f : Layout) → IsText (head w f)
+head-text : (w : Work) (f : Layout) (many : ℕ) → IsText (head w f many)
 unfolding head
-head-text w f =
+head-text w f many =
     simp (
       list_all-append is_text_byte,
-      start-text w f,
+      start-text w f many,
       heading-text w f,
-      hint-text w f,
       axis-text f,
       flat-text (cpu_head w f) (cpu-head-text w f) (range_with_len 0 f.cpus),
     )
@@ -433,92 +544,121 @@ sample-text : (k : Key) → IsText (sample_of k)
 sample-text key.Running = refl
 sample-text k = refl
 
-box-key-text : (class : List ℕ) (x y : ℕ) (words : List ℕ) → IsText class → IsText words → IsText (box_key class x y words)
+sample-class-text : (k : Key) → IsText (sample_class k)
+sample-class-text key.Running = refl
+sample-class-text k = refl
+
+all-words-text : (k : Key) (x y : ℕ) → IsText (key_words x y (words_of k))
+all-words-text k x y = word-label-text (codes "key") (x + 44) (y + 13) (words_of k) refl (key-words-text k)
+
+box-text-of : (class : List ℕ) (x y height : ℕ) (words : List ℕ) → IsText class → IsText words → IsText (key_box class x y height words)
+unfolding key_box
+box-text-of class x y height words p q = simp (list_all-append is_text_byte, bar-start-text class x y 34 height p, q)
+
+box-key-text : (k : Key) (x y : ℕ) → IsText (box_key k x y)
 unfolding box_key
-box-key-text class x y words p q =
-    simp (list_all-append is_text_byte, bar-start-text class x y 24 12 p, q, word-label-text (codes "key") (x + 30) (y + 10) words refl q)
+box-key-text k x y =
+    append-text (key_box (class_of k) x (y + key_drop k) (key_height k) (words_of k)) (key_words x y (words_of k))
+    (box-text-of (class_of k) x (y + key_drop k) (key_height k) (words_of k) (key-class-text k) (key-words-text k)) (all-words-text k x y)
 
-sample-key-text : (class : List ℕ) (x y : ℕ) (sample words : List ℕ) → IsText class → IsText sample → IsText words → IsText (sample_key class x y sample words)
+sample-key-text : (k : Key) (x y : ℕ) → IsText (sample_key k x y)
 unfolding sample_key
-sample-key-text class x y sample words p q r =
-    simp (list_all-append is_text_byte, box-key-text class x y words p r, word-label-text (codes "on") (x + 2) (y + 10) sample refl q)
+sample-key-text k x y =
+    append-text (box_key k x y) (word_label (sample_class k) (x + 6) (y + 13) (sample_of k)) (box-key-text k x y)
+    (word-label-text (sample_class k) (x + 6) (y + 13) (sample_of k) (sample-class-text k) (sample-text k))
 
-line-key-text : (class : List ℕ) (x y : ℕ) (words : List ℕ) → IsText class → IsText words → IsText (line_key class x y words)
+line-text-of : (class : List ℕ) (x : ℕ) (heights : ℕ × ℕ) (words : List ℕ) → IsText class → IsText words → IsText (key_line class x heights words)
+unfolding key_line
+line-text-of class x heights words p q = simp (list_all-append is_text_byte, path-start-text class x heights p, q)
+
+line-key-text : (k : Key) (x y : ℕ) → IsText (line_key k x y)
 unfolding line_key
-line-key-text class x y words p q =
-    simp (list_all-append is_text_byte, path-start-text class (x + 12) (y, y + 14) p, q, word-label-text (codes "key") (x + 30) (y + 10) words refl q)
+line-key-text k x y =
+    append-text (key_line (class_of k) (x + 16) (y, y + 18) (words_of k)) (key_words x y (words_of k))
+    (line-text-of (class_of k) (x + 16) (y, y + 18) (words_of k) (key-class-text k) (key-words-text k)) (all-words-text k x y)
+
+word-key-text : (k : Key) (x y : ℕ) → IsText (word_key k x y)
+unfolding word_key
+word-key-text k x y =
+    append-text (word_label (class_of k) x (y + 13) (sample_of k)) (key_words x y (words_of k))
+    (word-label-text (class_of k) x (y + 13) (sample_of k) (key-class-text k) (sample-text k)) (all-words-text k x y)
 
 key-shape-text : (k : Key) (x y : ℕ) (shape : Shape) → IsText (key_text k x y shape)
-key-shape-text k x y shape.Box = box-key-text (class_of k) x y (words_of k) (key-class-text k) (key-words-text k)
-key-shape-text k x y shape.Sample = sample-key-text (class_of k) x y (sample_of k) (words_of k) (key-class-text k) (sample-text k) (key-words-text k)
-key-shape-text k x y shape.Line = line-key-text (class_of k) x y (words_of k) (key-class-text k) (key-words-text k)
-key-shape-text k x y shape.Word = word-label-text (class_of k) x (y + 10) (words_of k) (key-class-text k) (key-words-text k)
+key-shape-text k x y shape.Box = box-key-text k x y
+key-shape-text k x y shape.Sample = sample-key-text k x y
+key-shape-text k x y shape.Line = line-key-text k x y
+key-shape-text k x y shape.Word = word-key-text k x y
 
-key-if-text : (n : ℕ) (k : Option Key) → IsText (key_if n k)
-key-if-text n None = refl
-key-if-text n (Some k) = key-shape-text k (slot_x n) (slot_y n) (shape_of k)
+key-if-text : (f : Layout) (n : ℕ) (k : Option Key) → IsText (key_if f n k)
+key-if-text f n None = refl
+key-if-text f n (Some k) = key-shape-text k (slot_x n) (slot_y f n) (shape_of k)
 
-keys-text : (keys : List Key) → IsText (keys_text keys)
-keys-text keys = flat-text (key_at keys) (λ n. key-if-text n (slice_get keys n)) (range_with_len 0 (length keys))
-
-legend-text : (w : Work) (f : Layout) (h : History) (d : Drawn) → IsText (legend_text w f h d)
-unfolding legend_text
-legend-text w f h d = keys-text (keys_of w f h d)
+keys-text : (f : Layout) (keys : List Key) → IsText (keys_text f keys)
+keys-text f keys = flat-text (key_at f keys) (λ n. key-if-text f n (slice_get keys n)) (range_with_len 0 (length keys))
 
 -- ---- the picture
 
-own-row-text : (w : Work) (f : Layout) (h : History) (s : State) (t : ℕ) (own : List Stretch) (row : ℕ) → IsText (own_row w f h s t own row)
+own-row-text : (w : Work) (f : Layout) (h : History) (holds : List Hold) (s : State) (t : ℕ) (own : List Stretch) (row : ℕ)
+    → IsText (own_row w f h holds s t own row)
 unfolding own_row
-own-row-text w f h s t own row =
+own-row-text w f h holds s t own row =
     simp (
       list_all-append is_text_byte,
       thread-head-text w f row t,
       bound-label-text f row (bound_of (slice_get s.threads t)),
       flat-text (stretch_bar w f (Thread row)) (bar-text w f (Thread row)) own,
+      bands-text w f holds t row,
       flat-text (level_text f row) (level-text f row) (levels t h.ranks.items w.limit),
     )
 
-row-text : (w : Work) (f : Layout) (h : History) (s : State) (t : ℕ) (own : List Stretch) (row : Option ℕ) → IsText (row_text w f h s t own row)
-row-text w f h s t own None = refl
-row-text w f h s t own (Some row) = own-row-text w f h s t own row
+row-text : (w : Work) (f : Layout) (h : History) (holds : List Hold) (s : State) (t : ℕ) (own : List Stretch) (row : Option ℕ)
+    → IsText (row_text w f h holds s t own row)
+row-text w f h holds s t own None = refl
+row-text w f h holds s t own (Some row) = own-row-text w f h holds s t own row
 
-thread-row-text : (w : Work) (f : Layout) (h : History) (s : State) (t : ℕ) → IsText (thread_text w f h s t)
+thread-row-text : (w : Work) (f : Layout) (h : History) (holds : List Hold) (s : State) (t : ℕ) → IsText (thread_text w f h holds s t)
 unfolding thread_text
-thread-row-text w f h s t =
+thread-row-text w f h holds s t =
     let own = pieces (track.Thread t) h w.limit in
-    simp (list_all-append is_text_byte, flat-text (run_bar w f) (run-text w f) own, row-text w f h s t own (row_of f t))
+    simp (list_all-append is_text_byte, flat-text (run_bar w f) (run-text w f) own, row-text w f h holds s t own (row_of f t))
 
-marks-text : (w : Work) (f : Layout) (s : State) → IsText (marks_text w f s)
-marks-text w f s =
-    either-text (ltb f.to w.limit) [] (flat_map (flat_map (mark_text f)) (cycles_of s)) refl
+marks-text : (f : Layout) (h : History) (s : State) → IsText (marks_text f h s)
+marks-text f h s =
+    either-text (ltb f.to (last_act h.happenings.items)) [] (flat_map (flat_map (mark_text f)) (cycles_of s)) refl
     (flat-text (flat_map (mark_text f)) (flat-text (mark_text f) (mark-text f)) (cycles_of s))
 
-ground-text : (w : Work) (f : Layout) (h : History) (d : Drawn) → IsText (ground_text w f h d)
+frame-text : (w : Work) (f : Layout) (keys : List Key) → IsText (frame_text w f keys)
+unfolding frame_text
+frame-text w f keys = append-text (head w f (lines_of keys)) (keys_text f keys) (head-text w f (lines_of keys)) (keys-text f keys)
+
+ground-all-text : (w : Work) (f : Layout) (h : History) (d : Drawn) → IsText (ground_text w f h d)
 unfolding ground_text
-ground-text w f h d =
+ground-all-text w f h d =
     simp (
       list_all-append is_text_byte,
-      head-text w f,
-      legend-text w f h d,
+      frame-text w f (keys_of f h d),
       flat-text (wake_text w f) (wake-text w f) h.wakeups.items,
       hand-texts-text w f None 0 d.hand_overs,
     )
 
-rows-text : (w : Work) (f : Layout) (h : History) (parts : List Stretch) (s : State) → IsText (rows_text w f h parts s)
+rows-text : (w : Work) (f : Layout) (h : History) (d : Drawn) (s : State) → IsText (rows_text w f h d s)
 unfolding rows_text
-rows-text w f h parts s =
+rows-text w f h d s =
     simp (
       list_all-append is_text_byte,
-      flat-text (thread_text w f h s) (thread-row-text w f h s) (range_with_len 0 (length w.threads)),
-      flat-text (moment_text w f) (moment-text w f) parts,
+      flat-text (thread_text w f h d.holds s) (thread-row-text w f h d.holds s) (range_with_len 0 (length w.threads)),
+      flat-text (moment_text w f) (moment-text w f) d.pieces,
       flat-text (note_text w f) (note-text w f) h.happenings.items,
-      marks-text w f s,
+      marks-text f h s,
       flat-text (fold_text f) (fold-text f) f.folds,
     )
 
 laid-out-text : (w : Work) (f : Layout) (h : History) (s : State) (d : Drawn) → IsText (laid_out w f h s d)
 unfolding laid_out
-laid-out-text w f h s d = simp (list_all-append is_text_byte, ground-text w f h d, rows-text w f h d.pieces s)
+laid-out-text w f h s d = simp (list_all-append is_text_byte, ground-all-text w f h d, rows-text w f h d s)
+
+with-holds-text : (w : Work) (f : Frame) (h : History) (s : State) (holds : List Hold) → IsText (with_holds w f h s holds)
+with-holds-text w f h s holds = laid-out-text w (layout_of w f h holds) h s (drawn_of w (layout_of w f h holds) h holds)
 
 pub timeline-text : (w : Work) (f : Frame) (h : History) (s : State) → IsText (timeline_text w f h s)
-timeline-text w f h s = laid-out-text w (layout_of w f h) h s (drawn_of w (layout_of w f h) h)
+timeline-text w f h s = with-holds-text w f h s (shown_holds w f h)

@@ -9,7 +9,7 @@ use Rattle.sd_stretches.specs.declared.changes.Wakeup.{Wakeup}
 use Rattle.sd_stretches.specs.declared.histories.History.{History}
 use Rattle.sd_stretches.specs.Doings.{doing_text}
 use Rattle.sd_layout.specs.declared.layouts.Row.TheVariants.{Thread}
-use Rattle.sd_layout.specs.Layouts.{Layout, column, floor, row_of, shifted, shows, top}
+use Rattle.sd_layout.specs.Layouts.{Layout, column, floor, landing, row_of, shifted, shows, top}
 use Rattle.sd_timeline.specs.Pieces.{path_start, path_end}
 
 -- who waits for what
@@ -19,10 +19,10 @@ waiter_text w x waiter = (codes "entry " ++ decimal x.entry) ++ codes ": " ++ th
 unfoldable pub hand_title : Work → HandOver → ℕ → List ℕ
 hand_title w x waiter = waiter_text w x waiter ++ codes ", so " ++ thread_name w x.owner.0 ++ (codes " has " ++ decimal x.priority)
 
--- from which height to which an arrow goes from the bar of one thread to that of another
+-- from which height to which an arrow goes from the bar of one thread to that of another, or to the locks under it
 abbrev pub heights : Layout → ℕ → ℕ → ℕ × ℕ
 heights f from to =
-    if nat_lt to from then (top f (Thread from), floor f (Thread to)) else (floor f (Thread from), top f (Thread to))
+    if nat_lt to from then (top f (Thread from), landing f to) else (floor f (Thread from), top f (Thread to))
 
 unfoldable pub arrow_start : List ℕ → ℕ → Layout → ℕ → ℕ → List ℕ
 arrow_start class column f from to = path_start class column (heights f from to)

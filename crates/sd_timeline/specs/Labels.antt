@@ -1,6 +1,6 @@
 -- The priorities above the bars, and the marks of deadlocks.
 -- Source: this project's own.
-use Rattle.std.specs.Prelude.{ℕ, Bool, true, false, ◌==◌, nat_le, nat_lt, List, [], ◌++◌, codes, decimal, filter, Option, Some, None, if◌then◌else◌}
+use Rattle.std.specs.Prelude.{ℕ, ◌+◌, Bool, true, false, ◌==◌, nat_le, nat_lt, List, [], ◌++◌, codes, decimal, filter, Option, Some, None, if◌then◌else◌}
 use Rattle.std.specs.List.{flat_map}
 use Rattle.sd_types.specs.declared.works.Work.{Work}
 use Rattle.sd_stretches.specs.declared.histories.History.{History}
@@ -9,7 +9,7 @@ use Rattle.sd_stretches.specs.Rows.{levels}
 use Rattle.sd_layout.specs.declared.folds.Column.{Column}
 use Rattle.sd_layout.specs.declared.layouts.Row.TheVariants.{Thread}
 use Rattle.sd_layout.specs.Layouts.{Layout, above, base, beside, column, depth, inside, over, row_of, width}
-use Rattle.sd_timeline.specs.Pieces.{bar_end, bar_start, word_label, number_label}
+use Rattle.sd_timeline.specs.Pieces.{bar_end, bar_start, cover, word_label, number_label}
 use Rattle.sd_timeline.specs.Bars.{between}
 use Rattle.sd_layout.specs.Folds.{many}
 
@@ -19,12 +19,12 @@ own_level f t x = number_label (codes "own") (beside f x.from) (above f t) [] x.
 -- a triangle tells that it is inherited
 abbrev pub inherited_level : Layout → ℕ → Level → List ℕ
 inherited_level f t x =
-    if nat_lt (width f x.from x.to) 30 then word_label (codes "inherited") (beside f x.from) (above f t) (codes "&#9650;")
+    if nat_lt (width f x.from x.to) 46 then word_label (codes "inherited") (beside f x.from) (above f t) (codes "&#9650;")
     else number_label (codes "inherited") (beside f x.from) (above f t) (codes "&#9650;") x.priority
 
 -- there is room for it
 abbrev pub has_room : Layout → Level → Bool
-has_room f x = nat_le 20 (width f x.from x.to)
+has_room f x = nat_le 30 (width f x.from x.to)
 
 abbrev pub some_level : Layout → ℕ → Level → List ℕ
 some_level f t x = if x.inherited then inherited_level f t x else own_level f t x
@@ -50,11 +50,18 @@ level_title x = (codes "priority " ++ decimal x.priority) ++ inherited_word x.in
 
 -- the place of a priority, which shows it also where there is no room for it
 unfoldable pub level_area : Layout → ℕ → Level → List ℕ
-level_area f t x = bar_start (codes "level") (column f x.from) (over f t) (width f x.from x.to) 12 ++ level_title x ++ bar_end
+level_area f t x = bar_start (codes "level") (column f x.from) (over f t) (width f x.from x.to) 13 ++ level_title x ++ bar_end
+
+-- a line as long as a priority is inherited
+abbrev pub raised_line : Layout → ℕ → Level → List ℕ
+raised_line f t x = if x.inherited then cover (codes "raised") (column f x.from) (over f t + 13) (width f x.from x.to) 2 else []
+
+unfoldable pub whole_level : Layout → ℕ → Level → List ℕ
+whole_level f t x = level_label f t x ++ raised_line f t x ++ level_area f t x
 
 -- none where no tick of it is drawn
 abbrev pub level_text : Layout → ℕ → Level → List ℕ
-level_text f t x = if width f x.from x.to == 0 then [] else level_label f t x ++ level_area f t x
+level_text f t x = if width f x.from x.to == 0 then [] else whole_level f t x
 
 unfoldable pub many_text : ℕ → List ℕ
 many_text n = codes "nothing changes in these ticks: " ++ decimal n
@@ -64,7 +71,7 @@ fold_title x = many_text (many x) ++ between (codes ", ") x.from x.to
 
 -- a gap across the rows, which tells how many ticks are folded
 unfoldable pub fold_text : Layout → Column → List ℕ
-fold_text f x = bar_start (codes "page") (column f x.from) 118 (width f x.from x.to) (depth f) ++ fold_title x ++ bar_end
+fold_text f x = bar_start (codes "gap") (column f x.from) 50 (width f x.from x.to) (depth f) ++ fold_title x ++ bar_end
 
 abbrev pub mark_at : Layout → Option ℕ → List ℕ
 mark_at f None = []

@@ -1,7 +1,10 @@
 pub mod Parts
 pub mod Pieces
+pub mod Colours
+pub mod Style
 pub mod Bars
 pub mod Arrows
+pub mod Held
 pub mod Labels
 pub mod Legend
 pub mod Moments

@@ -20,6 +20,10 @@ bar_start class x y width height = codes "<rect class=\"" ++ class ++ codes "\""
 abbrev pub bar_end : List ℕ
 bar_end = codes "</title></rect>\n"
 
+-- a rectangle on which nothing is shown
+unfoldable pub cover : List ℕ → ℕ → ℕ → ℕ → ℕ → List ℕ
+cover class x y width height = codes "<rect class=\"" ++ class ++ codes "\"" ++ box_text x y width height ++ codes "/>\n"
+
 -- a text, with its words between the two
 unfoldable pub label_start : List ℕ → ℕ → ℕ → List ℕ
 label_start class x y = codes "<text class=\"" ++ class ++ codes "\"" ++ attribute (codes "x") x ++ attribute (codes "y") y ++ codes ">"

@@ -8,14 +8,17 @@ use Rattle.sd_stretches.specs.declared.changes.Wakeup.{Wakeup}
 use Rattle.sd_stretches.specs.declared.histories.History.{History}
 use Rattle.sd_stretches.specs.declared.rows.Stretch.{Stretch}
 use Rattle.sd_stretches.specs.Plain.{IsPlain, IsText}
+use Rattle.sd_holds.specs.declared.holdings.Hold.{Hold}
 use Rattle.sd_layout.specs.declared.frames.Frame.{Frame}
 use Rattle.sd_timeline.specs.Bars.{stretch_title}
+use Rattle.sd_timeline.specs.Held.{held_title}
 use Rattle.sd_timeline.specs.Arrows.{hand_title, wake_title}
 use Rattle.sd_timeline.specs.Picture.{timeline_text}
 
--- the titles of bars and arrows
+-- the titles of bars, bands and arrows
 pub record HasPlainTitles (w : Work) : Type 0 where
   pub bars : (x : Stretch) → IsPlain (stretch_title w x)
+  pub holds : (x : Hold) → IsPlain (held_title w x)
   pub arrows : (x : HandOver) (waiter : ℕ) → IsPlain (hand_title w x waiter)
   pub wakeups : (x : Wakeup) (waker : ℕ) → IsPlain (wake_title w x waker)
 

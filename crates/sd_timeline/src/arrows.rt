@@ -46,12 +46,12 @@ fn put_hand_title(
     put_parts(&parts, out)
 }
 
-// From which height to which an arrow goes from the bar of one thread to that of another.
+// From which height to which an arrow goes from the bar of one thread to that of another, or to the locks under it.
 fn heights(layout: &Layout, from: u16, to: u16) -> (u64, u64)
     ensures { result ≡ heights layout.now from to }
 {
     if to < from {
-        (layout.top(Row::Thread(from)), layout.floor(Row::Thread(to)))
+        (layout.top(Row::Thread(from)), layout.landing(to))
     } else {
         (layout.floor(Row::Thread(from)), layout.top(Row::Thread(to)))
     }

@@ -3,10 +3,13 @@
 ghost use Rattle.std.specs.Prelude.{◌≡◌, ◌+◌, ◌++◌, ◌<◌, ◌≤◌, ◌^◌, OnOk, codes, decimal, flat_map};
 ghost use Rattle.std.specs.List.{range_with_len};
 ghost use Rattle.sd_layout.specs.Layouts.{axes, shown};
-ghost use Rattle.sd_timeline.specs.Head.{axis, bound_label, counts_text, cpu_head, description, file_title, fold_marks, hatch, head, heading, hint, inner_number, mark, mark_if, measures, opened, page, rowless, rowless_text, set_label, size, start, style, thread_head, ticks_text, view_box};
+ghost use Rattle.sd_timeline.specs.Head.{axis, bound_label, counts_text, cpu_head, description, file_title, fold_marks, head, heading, inner_number, mark, mark_if, measures, opened, rowless, rowless_text, set_label, size, start, swatch, thread_head, ticks_text, view_box};
+ghost use Rattle.sd_timeline.specs.Style.{page, patterns, style};
 
+use crate::colours::{colour_name, colour_of, put_texture, texture_of};
 use crate::parts::{Part, put_parts};
-use crate::pieces::{put_label_end, put_label_start, put_line, put_number_label, put_word_label};
+use crate::pieces::{put_cover, put_label_end, put_label_start, put_line, put_number_label, put_word_label};
+use crate::style::{put_page, put_patterns, put_style};
 use sd_layout::{Column, Layout, Row};
 use sd_rules::set_of_cpu;
 use sd_stretches::{put_counted, set_name, thread_name};
@@ -37,11 +40,14 @@ fn put_measures(width: u64, height: u64, out: &mut Vec<u8>) -> Result<(), AllocE
     put_view_box(width, height, out)
 }
 
+// Where so many lines of the legend stand under the rows.
 #[tactic(auto, unfolding(crate::specs::Head::size))]
-fn put_size(layout: &Layout, out: &mut Vec<u8>) -> Result<(), AllocError>
-    ensures { OnOk result (out.new.items ≡ out.old.items ++ size layout.now) }
+fn put_size(layout: &Layout, lines: u64, out: &mut Vec<u8>) -> Result<(), AllocError>
+    requires { lines < 2 ^ 32 }
+    ensures { OnOk result (out.new.items ≡ out.old.items ++ size layout.now lines) }
 {
-    put_measures(layout.total_width(), layout.bottom() + 26, out)
+    let height = layout.bottom() + 34 + 24 * lines;
+    put_measures(layout.total_width(), height, out)
 }
 
 #[tactic(auto, unfolding(crate::specs::Head::opened))]
@@ -49,27 +55,6 @@ fn put_opened(out: &mut Vec<u8>) -> Result<(), AllocError>
     ensures { OnOk result (out.new.items ≡ out.old.items ++ opened) }
 {
     out.extend_from_slice(b"<svg xmlns=\"http://www.w3.org/2000/svg\"")
-}
-
-// The lines, the colours of what threads do, which differ in grey too, and the letters. The priorities stand on a white edge, so that they can
-// be read where an arrow passes behind them.
-#[tactic(auto, unfolding(crate::specs::Head::style, crate::specs::Head::lines, crate::specs::Head::thin_lines, crate::specs::Head::dark_colours, crate::specs::Head::light_colours, crate::specs::Head::letters, crate::specs::Head::small_letters))]
-fn put_style(out: &mut Vec<u8>) -> Result<(), AllocError>
-    ensures { OnOk result (out.new.items ≡ out.old.items ++ style) }
-{
-    out.extend_from_slice(
-        b"<style>\nrect{stroke:#333;stroke-width:.5}\n.grid{stroke:#ccc}\n.base{stroke:#888}\n.will{fill:none;stroke:#000;stroke-width:1.5;marker-end:url(#tip)}\n.wake{fill:none;stroke:#777;stroke-width:.8;marker-end:url(#tip)}\n.moment{stroke:#0f2c47;stroke-width:2}\n.run{fill:#0f2c47;stroke:#fff}\n.spin{fill:url(#hatch)}\n.wait{fill:#cd463c}\n.sleep{fill:#649c94}\n.ready{fill:#f6b73c}\n.nap{fill:#dfdfee}\n.end{fill:#fff;stroke:#aaa}\n.page{fill:#fff;stroke:none}\n.level{fill:none;stroke:none;pointer-events:all}\ntext{font:11px sans-serif;fill:#000}\n.head{font-weight:bold}\n.name{text-anchor:end}\n.tick{text-anchor:middle}\n.on,.in,.own,.inherited{font-size:10px}\n.note{font-size:8px}\n.closes{text-anchor:end}\n.on{fill:#fff;paint-order:stroke;stroke:#0f2c47;stroke-width:2px}\n.own,.inherited{paint-order:stroke;stroke:#fff;stroke-width:3px}\n.inherited,.dead{font-weight:bold;fill:#a3160c}\n</style>\n",
-    )
-}
-
-// The pattern of the bars of threads that spin, which are dark stripes, so that grey shows them too; the head of an arrow; and the white page.
-#[tactic(auto, unfolding(crate::specs::Head::hatch, crate::specs::Head::page))]
-fn put_page(out: &mut Vec<u8>) -> Result<(), AllocError>
-    ensures { OnOk result (out.new.items ≡ out.old.items ++ (hatch ++ page)) }
-{
-    out.extend_from_slice(
-        b"<defs><pattern id=\"hatch\" width=\"6\" height=\"6\" patternUnits=\"userSpaceOnUse\"><path fill=\"#a066b8\" d=\"M0 0H6V6H0z\"/><path stroke=\"#2a0f36\" stroke-width=\"2\" d=\"M-1 1L1 -1M0 6L6 0M5 7L7 5\"/></pattern></defs>\n<defs><marker id=\"tip\" markerWidth=\"5\" markerHeight=\"5\" refX=\"5\" refY=\"2.5\" orient=\"auto\"><path d=\"M0 0L5 2.5L0 5z\"/></marker></defs>\n<rect class=\"page\" width=\"100%\" height=\"100%\"/>\n",
-    )
 }
 
 // Which ticks are drawn, of how many.
@@ -126,28 +111,31 @@ fn put_description(work: &Work, layout: &Layout, out: &mut Vec<u8>) -> Result<()
     out.extend_from_slice(b"</desc>\n")
 }
 
-// The start of the file, up to the white page.
-#[tactic(auto, unfolding(crate::specs::Head::start))]
-fn put_start(work: &Work, layout: &Layout, out: &mut Vec<u8>) -> Result<(), AllocError>
-    ensures { OnOk result (out.new.items ≡ out.old.items ++ start work.now layout.now) }
+// What makes the picture look as it does.
+fn put_looks(out: &mut Vec<u8>) -> Result<(), AllocError>
+    ensures { OnOk result (out.new.items ≡ out.old.items ++ (style ++ patterns ++ page)) }
 {
-    put_opened(out)?;
-    put_size(layout, out)?;
-    put_file_title(work, out)?;
-    put_description(work, layout, out)?;
     put_style(out)?;
+    put_patterns(out)?;
     put_page(out)
 }
 
-#[tactic(auto, unfolding(crate::specs::Head::heading))]
-fn put_heading(work: &Work, layout: &Layout, out: &mut Vec<u8>) -> Result<(), AllocError>
-    ensures { OnOk result (out.new.items ≡ out.old.items ++ heading work.now layout.now) }
+// The start of the file, up to the white page.
+#[tactic(auto, unfolding(crate::specs::Head::start))]
+fn put_start(
+    work: &Work,
+    layout: &Layout,
+    lines: u64,
+    out: &mut Vec<u8>,
+) -> Result<(), AllocError>
+    requires { lines < 2 ^ 32 }
+    ensures { OnOk result (out.new.items ≡ out.old.items ++ start work.now layout.now lines) }
 {
-    put_label_start(b"head", 150, 18, out)?;
-    put_ticks(work, layout, out)?;
-    out.extend_from_slice(b"; ")?;
-    put_counts(work, out)?;
-    put_label_end(out)
+    put_opened(out)?;
+    put_size(layout, lines, out)?;
+    put_file_title(work, out)?;
+    put_description(work, layout, out)?;
+    put_looks(out)
 }
 
 #[tactic(auto, unfolding(crate::specs::Head::rowless_text))]
@@ -170,13 +158,14 @@ fn put_rowless(work: &Work, layout: &Layout, out: &mut Vec<u8>) -> Result<(), Al
     }
 }
 
-// Where more is told, and how many threads have no row.
-#[tactic(auto, unfolding(crate::specs::Head::hint))]
-fn put_hint(work: &Work, layout: &Layout, out: &mut Vec<u8>) -> Result<(), AllocError>
-    ensures { OnOk result (out.new.items ≡ out.old.items ++ hint work.now layout.now) }
+#[tactic(auto, unfolding(crate::specs::Head::heading))]
+fn put_heading(work: &Work, layout: &Layout, out: &mut Vec<u8>) -> Result<(), AllocError>
+    ensures { OnOk result (out.new.items ≡ out.old.items ++ heading work.now layout.now) }
 {
-    put_label_start(b"key", 150, 34, out)?;
-    out.extend_from_slice(b"more where the pointer rests")?;
+    put_label_start(b"head", 20, 20, out)?;
+    put_ticks(work, layout, out)?;
+    out.extend_from_slice(b"; ")?;
+    put_counts(work, out)?;
     put_rowless(work, layout, out)?;
     put_label_end(out)
 }
@@ -214,8 +203,8 @@ fn put_mark(layout: &Layout, tick: u32, out: &mut Vec<u8>) -> Result<(), AllocEr
 {
     let x = layout.column(tick);
     let number = u64::from(tick);
-    put_line(b"grid", (x, 118), (x, layout.bottom()), out)?;
-    put_number_label(b"tick", x, 113, b"", number, out)?;
+    put_line(b"grid", (x, 50), (x, layout.bottom()), out)?;
+    put_number_label(b"tick", x, 44, b"", number, out)?;
     put_number_label(b"tick", x, layout.bottom() + 14, b"", number, out)?;
     put_inner_numbers(layout, tick, out)
 }
@@ -266,6 +255,7 @@ fn put_folds(layout: &Layout, folds: &[Column], out: &mut Vec<u8>) -> Result<(),
 fn put_axis(layout: &Layout, out: &mut Vec<u8>) -> Result<(), AllocError>
     ensures { OnOk result (out.new.items ≡ out.old.items ++ axis layout.now) }
 {
+    put_word_label(b"side", 126, 44, b"tick", out)?;
     put_ticks_before(layout, layout.shown(), out)?;
     put_mark_if(layout, layout.shown(), out)?;
     put_folds(layout, &layout.folds, out)
@@ -286,9 +276,9 @@ fn put_set_label(
         return Ok(());
     }
     put_word_label(
-        b"name note",
-        142,
-        layout.under(Row::Cpu(c)),
+        b"side",
+        126,
+        layout.beneath(Row::Cpu(c)),
         set_name(work, set),
         out,
     )
@@ -303,7 +293,7 @@ fn put_cpu_head(work: &Work, layout: &Layout, c: u16, out: &mut Vec<u8>) -> Resu
     put_set_label(work, layout, c, set_of_cpu(work, CpuId(c)), out)?;
     put_number_label(
         b"name",
-        142,
+        126,
         layout.base(row),
         b"processor ",
         u64::from(c),
@@ -327,8 +317,17 @@ fn put_cpu_heads(work: &Work, layout: &Layout, out: &mut Vec<u8>) -> Result<(), 
     Ok(())
 }
 
+// The colour and the texture of a thread, beside its name.
+fn put_swatch(layout: &Layout, row: u16, t: usize, out: &mut Vec<u8>) -> Result<(), AllocError>
+    ensures { OnOk result (out.new.items ≡ out.old.items ++ swatch layout.now row t) }
+{
+    let y = layout.top(Row::Thread(row)) + 3;
+    put_cover(colour_name(colour_of(t)), 131, y, 12, 12, out)?;
+    put_texture(texture_of(t), 131, y, 12, 12, out)
+}
+
 /// The name of a thread at its row.
-#[tactic(auto, unfolding(crate::specs::Head::thread_head, crate::specs::Pieces::word_label))]
+#[tactic(auto, unfolding(crate::specs::Head::thread_head))]
 pub(crate) fn put_thread_head(
     work: &Work,
     layout: &Layout,
@@ -338,13 +337,9 @@ pub(crate) fn put_thread_head(
 ) -> Result<(), AllocError>
     ensures { OnOk result (out.new.items ≡ out.old.items ++ thread_head work.now layout.now row t) }
 {
-    put_word_label(
-        b"name",
-        142,
-        layout.base(Row::Thread(row)),
-        thread_name(work, t),
-        out,
-    )
+    let base = layout.base(Row::Thread(row));
+    put_word_label(b"name", 126, base, thread_name(work, t), out)?;
+    put_swatch(layout, row, t, out)
 }
 
 /// To which processor a thread is bound, under its name.
@@ -358,9 +353,9 @@ pub(crate) fn put_bound_label(
 {
     match bound {
         Some(c) => put_number_label(
-            b"name note",
-            142,
-            layout.under(Row::Thread(row)),
+            b"side",
+            126,
+            layout.beneath(Row::Thread(row)),
             b"bound to ",
             u64::from(c.0),
             out,
@@ -369,14 +364,19 @@ pub(crate) fn put_bound_label(
     }
 }
 
-/// All that stands above the rows, and the names of the processors' rows.
+/// All that stands above the rows, and the names of the processors' rows, where the legend has so many lines.
 #[tactic(auto, unfolding(crate::specs::Head::head))]
-pub(crate) fn put_head(work: &Work, layout: &Layout, out: &mut Vec<u8>) -> Result<(), AllocError>
-    ensures { OnOk result (out.new.items ≡ out.old.items ++ head work.now layout.now) }
+pub(crate) fn put_head(
+    work: &Work,
+    layout: &Layout,
+    lines: u64,
+    out: &mut Vec<u8>,
+) -> Result<(), AllocError>
+    requires { lines < 2 ^ 32 }
+    ensures { OnOk result (out.new.items ≡ out.old.items ++ head work.now layout.now lines) }
 {
-    put_start(work, layout, out)?;
+    put_start(work, layout, lines, out)?;
     put_heading(work, layout, out)?;
-    put_hint(work, layout, out)?;
     put_axis(layout, out)?;
     put_cpu_heads(work, layout, out)
 }

@@ -1,10 +1,10 @@
 //! The priorities above the bars, and the marks of deadlocks.
 
 ghost use Rattle.std.specs.Prelude.{◌≡◌, ◌++◌, ◌∷◌, [], IfOk, OnOk, filter, flat_map, if◌then◌else◌};
-ghost use Rattle.sd_timeline.specs.Labels.{fold_text, fold_title, has_room, inherited_level, inherited_word, labelled, labelled_by, level_area, level_label, level_text, level_title, mark_text, own_level, some_level};
+ghost use Rattle.sd_timeline.specs.Labels.{fold_text, fold_title, has_room, inherited_level, inherited_word, labelled, labelled_by, level_area, level_label, level_text, level_title, mark_text, own_level, raised_line, some_level, whole_level};
 
 use crate::parts::{Part, put_parts};
-use crate::pieces::{put_bar_end, put_bar_start, put_number_label, put_word_label};
+use crate::pieces::{put_bar_end, put_bar_start, put_cover, put_number_label, put_word_label};
 use sd_layout::{Column, Layout, Row};
 use sd_stretches::{ByThread, Level, levels};
 use sd_types::Work;
@@ -36,7 +36,7 @@ fn put_inherited_level(
 {
     let column = layout.beside(x.from);
     let y = layout.above(t);
-    if layout.width(x.from, x.to) < 30 {
+    if layout.width(x.from, x.to) < 46 {
         put_word_label(b"inherited", column, y, b"&#9650;", out)
     } else {
         put_number_label(
@@ -54,7 +54,7 @@ fn put_inherited_level(
 fn has_room(layout: &Layout, x: &Level) -> bool
     ensures { result ≡ has_room layout.now x.now }
 {
-    20 <= layout.width(x.from, x.to)
+    30 <= layout.width(x.from, x.to)
 }
 
 fn put_some_level(layout: &Layout, t: u16, x: &Level, out: &mut Vec<u8>) -> Result<(), AllocError>
@@ -162,21 +162,42 @@ fn put_level_area(layout: &Layout, t: u16, x: &Level, out: &mut Vec<u8>) -> Resu
         layout.column(x.from),
         layout.over(t),
         width,
-        12,
+        13,
         out,
     )?;
     put_level_title(x, out)?;
     put_bar_end(out)
 }
 
+// A line as long as a priority is inherited.
+fn put_raised_line(layout: &Layout, t: u16, x: &Level, out: &mut Vec<u8>) -> Result<(), AllocError>
+    ensures { OnOk result (out.new.items ≡ out.old.items ++ raised_line layout.now t x.now) }
+{
+    if x.inherited {
+        let width = layout.width(x.from, x.to);
+        put_cover(b"raised", layout.column(x.from), layout.over(t) + 13, width, 2, out)
+    } else {
+        Ok(())
+    }
+}
+
+#[tactic(auto, unfolding(crate::specs::Labels::whole_level))]
+fn put_whole_level(layout: &Layout, t: u16, x: &Level, out: &mut Vec<u8>) -> Result<(), AllocError>
+    ensures { OnOk result (out.new.items ≡ out.old.items ++ whole_level layout.now t x.now) }
+{
+    put_level_label(layout, t, x, out)?;
+    put_raised_line(layout, t, x, out)?;
+    put_level_area(layout, t, x, out)
+}
+
 fn put_level(layout: &Layout, t: u16, x: &Level, out: &mut Vec<u8>) -> Result<(), AllocError>
     ensures { OnOk result (out.new.items ≡ out.old.items ++ level_text layout.now t x.now) }
 {
     if layout.width(x.from, x.to) == 0 {
-        return Ok(());
+        Ok(())
+    } else {
+        put_whole_level(layout, t, x, out)
     }
-    put_level_label(layout, t, x, out)?;
-    put_level_area(layout, t, x, out)
 }
 
 /// The priorities of a thread above its bars.
@@ -217,9 +238,9 @@ fn put_fold(layout: &Layout, x: &Column, out: &mut Vec<u8>) -> Result<(), AllocE
 {
     let width = layout.width(x.from, x.to);
     put_bar_start(
-        b"page",
+        b"gap",
         layout.column(x.from),
-        118,
+        50,
         width,
         layout.depth(),
         out,

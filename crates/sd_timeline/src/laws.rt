@@ -2,7 +2,7 @@
 
 ghost use Rattle.sd_timeline.specs.Plain.{TimelinesArePlain, TitlesNeedNoEscaping};
 
-/// The title of each bar and of each arrow needs no escaping, in the sense of `names_need_no_escaping` of `sd_stretches`.
+/// The title of each bar, of each band and of each arrow needs no escaping, in the sense of `names_need_no_escaping` of `sd_stretches`.
 pub fn titles_need_no_escaping()
     ensures { TitlesNeedNoEscaping }
 {}

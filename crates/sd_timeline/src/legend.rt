@@ -1,19 +1,22 @@
-//! The legend: what the colours, lines, numbers and names of a picture mean, as far as they are drawn.
+//! The legend: what the forms, lines and numbers of a picture mean, as far as they are drawn.
 
 ghost use Rattle.std.specs.Prelude.{◌≡◌, ◌<◌, ◌^◌, ◌++◌, ◌∷◌, ◌&&◌, [], IfOk, OnOk, filter, not, if◌then◌else◌};
 ghost use Rattle.std.specs.List.{list_any};
 ghost use Rattle.sd_timeline.specs.Arrows.{is_drawn_wake};
+ghost use Rattle.sd_timeline.specs.Held.{is_shown_hold};
 ghost use Rattle.sd_timeline.specs.Moments.{is_moment};
-ghost use Rattle.sd_timeline.specs.Legend.{Drawn as DrawnValue, box_key, class_of, does, drawn_of, has_bar, is_on_cpu, key_at, key_text, keys_of, keys_text, legend_text, length_of, line_key, occurs, sample_key, sample_of, shape_of, shows_lock, shows_name, shows_number, slot_x, slot_y, words_of};
+ghost use Rattle.sd_timeline.specs.Legend.{Drawn as DrawnValue, box_key, class_of, does, drawn_of, has_bar, is_on_cpu, key_at, key_box, key_drop, key_height, key_line, key_text, key_words, keys_of, keys_text, length_of, line_key, lines_of, occurs, sample_class, sample_key, sample_of, shape_of, shows_number, slot_x, slot_y, word_key, words_of};
 
 use crate::arrows::{drawn_hands, has_row, is_drawn_wake};
-use crate::bars::{fits, has_name, has_number};
+use crate::bars::has_number;
+use crate::held::is_shown_hold;
 use crate::labels::labelled;
 use crate::moments::{drawn_pieces, is_moment};
 use crate::parts::{Part, put_parts};
 use crate::pieces::{put_bar_start, put_path_start, put_word_label};
+use sd_holds::Hold;
 use sd_layout::Layout;
-use sd_stretches::{ByThread, Doing, HandOver, Level, Stretch, Wakeup, thread_name};
+use sd_stretches::{ByThread, Doing, HandOver, Level, Stretch, Wakeup};
 use sd_types::Work;
 use std::alloc::{AllocError, Global};
 use std::marker::Model;
@@ -29,16 +32,16 @@ pub(crate) enum Key {
     Napping,
     Ended,
     Number,
-    Name,
-    Lock,
-    Moment,
-    Wake,
-    HandOver,
+    Held,
     Own,
     Inherited,
+    HandOver,
+    Wake,
+    Moment,
+    Fold,
 }
 
-/// How it looks: a box, a box with a number or a name on it, an upright line, or a word as it stands above bars.
+/// How it looks: a box, a box with a word on it, an upright line, or a word as it stands above bars.
 #[derive(Clone, Copy)]
 pub(crate) enum Shape {
     Box,
@@ -56,19 +59,21 @@ const KEYS: [Key; 15] = [
     Key::Napping,
     Key::Ended,
     Key::Number,
-    Key::Name,
-    Key::Lock,
-    Key::Moment,
-    Key::Wake,
-    Key::HandOver,
+    Key::Held,
     Key::Own,
     Key::Inherited,
+    Key::HandOver,
+    Key::Wake,
+    Key::Moment,
+    Key::Fold,
 ];
 
-/// What is drawn of a run: the parts of it that have a bar or a mark, the arrows to owners, and the priorities that are written.
+/// What is drawn of a run: the parts of it that have a bar or a mark, the holds of locks, the arrows to owners, and the priorities that
+/// are written.
 #[derive(Drop)]
 pub(crate) struct Drawn {
     pub(crate) pieces: Vec<Stretch>,
+    pub(crate) holds: Vec<Hold>,
     pub(crate) hand_overs: Vec<HandOver>,
     pub(crate) levels: Vec<Level>,
 }
@@ -76,23 +81,25 @@ pub(crate) struct Drawn {
 impl Model for Drawn {
     ghost Value = { DrawnValue };
 
-    ghost view = { λ d. record { pieces = d.pieces.items; hand_overs = d.hand_overs.items; levels = d.levels.items } };
+    ghost view = { λ d. record { pieces = d.pieces.items; holds = d.holds.items; hand_overs = d.hand_overs.items; levels = d.levels.items } };
 }
 
-/// What is drawn of a run of the workload.
+/// What is drawn of a run of the workload, with these holds.
 pub(crate) fn drawn_of(
     alloc: Global,
     work: &Work,
     layout: &Layout,
     history: &ByThread,
+    holds: Vec<Hold>,
 ) -> Result<Drawn, AllocError>
-    ensures { IfOk result (λ drawn. drawn ≡ drawn_of work.now layout.now history.now) }
+    ensures { IfOk result (λ drawn. drawn ≡ drawn_of work.now layout.now history.now holds.items) }
 {
     let pieces = drawn_pieces(alloc, work, layout, history)?;
     let hand_overs = drawn_hands(alloc, layout, &history.history)?;
     let levels = labelled(alloc, work, layout, history)?;
     Ok(Drawn {
         pieces,
+        holds,
         hand_overs,
         levels,
     })
@@ -102,7 +109,7 @@ fn shape_of(key: Key) -> Shape
     ensures { result ≡ shape_of key }
 {
     match key {
-        Key::Number | Key::Name | Key::Lock => Shape::Sample,
+        Key::Number | Key::Held => Shape::Sample,
         Key::Moment | Key::Wake | Key::HandOver => Shape::Line,
         Key::Own | Key::Inherited => Shape::Word,
         _ => Shape::Box,
@@ -113,21 +120,21 @@ fn class_of(key: Key) -> &'static [u8]
     ensures { result.now ≡ class_of key }
 {
     match key {
-        Key::Running => b"run",
-        Key::Spinning => b"spin",
+        Key::Running => b"run blue",
+        Key::Spinning => b"blue-stripes",
         Key::Runnable => b"ready",
         Key::Waiting => b"wait",
         Key::Asleep => b"sleep",
         Key::Napping => b"nap",
         Key::Ended => b"end",
-        Key::Number => b"run",
-        Key::Name => b"run",
-        Key::Lock => b"wait",
+        Key::Number => b"run blue",
+        Key::Held => b"hold",
         Key::Moment => b"moment",
         Key::Wake => b"wake",
         Key::HandOver => b"will",
         Key::Own => b"own",
         Key::Inherited => b"inherited",
+        Key::Fold => b"gap",
     }
 }
 
@@ -135,33 +142,72 @@ fn words_of(key: Key) -> &'static [u8]
     ensures { result.now ≡ words_of key }
 {
     match key {
-        Key::Running => b"running",
-        Key::Spinning => b"spinning for a lock",
-        Key::Runnable => b"runnable",
-        Key::Waiting => b"waiting for a lock",
-        Key::Asleep => b"asleep on a channel",
-        Key::Napping => b"napping",
-        Key::Ended => b"ended",
-        Key::Number => b"its processor",
-        Key::Name => b"its thread",
-        Key::Lock => b"its lock or channel",
-        Key::Moment => b"ran within a tick",
-        Key::Wake => b"wakes",
-        Key::HandOver => b"hands priority on",
-        Key::Own => b"29 priority",
-        Key::Inherited => b"&#9650;110 inherited",
+        Key::Running => b"runs (a colour for each thread)",
+        Key::Spinning => b"spins for a lock",
+        Key::Runnable => b"ready, on a queue",
+        Key::Waiting => b"waits for a lock",
+        Key::Asleep => b"sleeps on a channel",
+        Key::Napping => b"naps",
+        Key::Ended => b"has ended",
+        Key::Number => b"runs on processor 0",
+        Key::Held => b"holds lock m",
+        Key::Moment => b"runs for less than a tick",
+        Key::Wake => b"wakes a thread",
+        Key::HandOver => b"hands its priority on",
+        Key::Own => b"priority 29",
+        Key::Inherited => b"inherited priority 110",
+        Key::Fold => b"nothing changes in these ticks",
     }
 }
 
-// What stands on the bar of a key.
+// The word that is shown as an example.
 fn sample_of(key: Key) -> &'static [u8]
     ensures { result.now ≡ sample_of key }
 {
     match key {
         Key::Number => b"0",
-        Key::Name => b"a",
-        Key::Lock => b"m",
+        Key::Held => b"m",
+        Key::Own => b"29",
+        Key::Inherited => b"&#9650;110",
         _ => b"",
+    }
+}
+
+fn sample_class(key: Key) -> &'static [u8]
+    ensures { result.now ≡ sample_class key }
+{
+    match key {
+        Key::Number => b"on",
+        _ => b"held",
+    }
+}
+
+// How far the box lies below the top of its line.
+fn key_drop(key: Key) -> u64
+    ensures value { result ≡ key_drop key }
+    ensures bound { result < 10 }
+{
+    match key {
+        Key::Runnable => 5,
+        Key::Waiting => 1,
+        Key::Asleep | Key::Napping => 8,
+        Key::Ended => 9,
+        Key::Held => 2,
+        _ => 0,
+    }
+}
+
+// Its height, which is that of the bars of the picture.
+fn key_height(key: Key) -> u64
+    ensures { result ≡ key_height key }
+{
+    match key {
+        Key::Runnable => 8,
+        Key::Waiting => 16,
+        Key::Asleep | Key::Napping => 3,
+        Key::Ended => 1,
+        Key::Held => 13,
+        _ => 18,
     }
 }
 
@@ -208,20 +254,6 @@ fn shows_number(layout: &Layout, x: &Stretch) -> bool
     has_row(layout, x.thread) && has_number(length_of(layout, x), x.doing)
 }
 
-// The name of the thread stands on a bar of the piece.
-fn shows_name(work: &Work, layout: &Layout, x: &Stretch) -> bool
-    ensures { result ≡ shows_name work.now layout.now x.now }
-{
-    is_on_cpu(x.doing) && fits(thread_name(work, x.thread).len(), length_of(layout, x))
-}
-
-// The name of a lock or a channel stands on a bar of the piece.
-fn shows_lock(work: &Work, layout: &Layout, x: &Stretch) -> bool
-    ensures { result ≡ shows_lock work.now layout.now x.now }
-{
-    has_row(layout, x.thread) && has_name(work, length_of(layout, x), x.doing)
-}
-
 fn any_does(key: Key, layout: &Layout, pieces: &[Stretch]) -> bool
     ensures { result ≡ list_any (λ x. does key x.doing && has_bar layout.now x) pieces.now }
 {
@@ -236,16 +268,10 @@ fn any_number(layout: &Layout, pieces: &[Stretch]) -> bool
     pieces.iter().any(|x| shows_number(layout, x))
 }
 
-fn any_name(work: &Work, layout: &Layout, pieces: &[Stretch]) -> bool
-    ensures { result ≡ list_any (shows_name work.now layout.now) pieces.now }
+fn any_hold(layout: &Layout, holds: &[Hold]) -> bool
+    ensures { result ≡ list_any (is_shown_hold layout.now) holds.now }
 {
-    pieces.iter().any(|x| shows_name(work, layout, x))
-}
-
-fn any_lock(work: &Work, layout: &Layout, pieces: &[Stretch]) -> bool
-    ensures { result ≡ list_any (shows_lock work.now layout.now) pieces.now }
-{
-    pieces.iter().any(|x| shows_lock(work, layout, x))
+    holds.iter().any(|x| is_shown_hold(layout, x))
 }
 
 fn any_moment(layout: &Layout, pieces: &[Stretch]) -> bool
@@ -273,177 +299,200 @@ fn any_inherited(levels: &[Level]) -> bool
 }
 
 // What the key explains is drawn.
-fn occurs(work: &Work, layout: &Layout, history: &ByThread, drawn: &Drawn, key: Key) -> bool
-    ensures { result ≡ occurs work.now layout.now history.now drawn.now key }
+fn occurs(layout: &Layout, history: &ByThread, drawn: &Drawn, key: Key) -> bool
+    ensures { result ≡ occurs layout.now history.now drawn.now key }
 {
     match key {
         Key::Number => any_number(layout, &drawn.pieces),
-        Key::Name => any_name(work, layout, &drawn.pieces),
-        Key::Lock => any_lock(work, layout, &drawn.pieces),
+        Key::Held => any_hold(layout, &drawn.holds),
         Key::Moment => any_moment(layout, &drawn.pieces),
         Key::Wake => any_wakeup(layout, &history.history.wakeups),
         Key::HandOver => !drawn.hand_overs.is_empty(),
         Key::Own => any_own(&drawn.levels),
         Key::Inherited => any_inherited(&drawn.levels),
+        Key::Fold => !layout.folds.is_empty(),
         _ => any_does(key, layout, &drawn.pieces),
     }
 }
 
 fn push_key(
-    work: &Work,
     layout: &Layout,
     history: &ByThread,
     drawn: &Drawn,
     key: Key,
     keys: &mut Vec<Key>,
 ) -> Result<(), AllocError>
-    ensures { OnOk result (keys.new.items ≡ keys.old.items ++ (if occurs work.now layout.now history.now drawn.now key then key ∷ [] else [])) }
+    ensures { OnOk result (keys.new.items ≡ keys.old.items ++ (if occurs layout.now history.now drawn.now key then key ∷ [] else [])) }
 {
-    if occurs(work, layout, history, drawn, key) {
+    if occurs(layout, history, drawn, key) {
         keys.push(key)?;
     }
     Ok(())
 }
 
 fn push_keys(
-    work: &Work,
     layout: &Layout,
     history: &ByThread,
     drawn: &Drawn,
     all: &[Key],
     keys: &mut Vec<Key>,
 ) -> Result<(), AllocError>
-    ensures { OnOk result (keys.new.items ≡ keys.old.items ++ filter (occurs work.now layout.now history.now drawn.now) all.now) }
+    ensures { OnOk result (keys.new.items ≡ keys.old.items ++ filter (occurs layout.now history.now drawn.now) all.now) }
 {
     for key in all {
-        push_key(work, layout, history, drawn, *key, keys)?;
+        push_key(layout, history, drawn, *key, keys)?;
     }
     Ok(())
 }
 
+/// The keys of the legend of a picture of the run.
 #[tactic(auto, unfolding(crate::specs::Legend::keys_of))]
-fn keys_of(
+pub(crate) fn keys_of(
     alloc: Global,
-    work: &Work,
     layout: &Layout,
     history: &ByThread,
     drawn: &Drawn,
 ) -> Result<Vec<Key>, AllocError>
-    ensures { IfOk result (λ v. v.items ≡ keys_of work.now layout.now history.now drawn.now) }
+    ensures { IfOk result (λ v. v.items ≡ keys_of layout.now history.now drawn.now) }
 {
     let mut keys = Vec::new(alloc);
-    push_keys(work, layout, history, drawn, &KEYS, &mut keys)?;
+    push_keys(layout, history, drawn, &KEYS, &mut keys)?;
     Ok(keys)
 }
 
-// The place of the key of this number: five stand in a line.
-fn slot_x(n: usize) -> u64
-    ensures { result ≡ slot_x n }
+/// How many lines they take: four stand in a line.
+pub(crate) fn lines_of(keys: &[Key]) -> u64
+    ensures value { result ≡ lines_of keys.now }
+    ensures bound { result < 6 }
 {
-    150 + 150 * (n as u64 % 5)
+    (keys.len() as u64 % 20 + 3) / 4
 }
 
-fn slot_y(n: usize) -> u64
-    ensures { result ≡ slot_y n }
+// The place of the key of this number, under the rows.
+fn slot_x(n: usize) -> u64
+    ensures value { result ≡ slot_x n }
+    ensures bound { result < 1000 }
 {
-    44 + 20 * (n as u64 % 15 / 5)
+    20 + 255 * (n as u64 % 4)
+}
+
+fn slot_y(layout: &Layout, n: usize) -> u64
+    ensures value { result ≡ slot_y layout.now n }
+    ensures bound { result < 2 ^ 56 }
+{
+    layout.bottom() + 30 + 24 * (n as u64 % 20 / 4)
+}
+
+fn put_key_words(x: u64, y: u64, words: &[u8], out: &mut Vec<u8>) -> Result<(), AllocError>
+    requires x { x < 1000 }
+    requires y { y < 2 ^ 56 }
+    ensures { OnOk result (out.new.items ≡ out.old.items ++ key_words x y words.now) }
+{
+    put_word_label(b"key", x + 44, y + 13, words, out)
+}
+
+#[tactic(auto, unfolding(crate::specs::Legend::key_box))]
+fn put_key_box(
+    class: &[u8],
+    x: u64,
+    y: u64,
+    height: u64,
+    words: &[u8],
+    out: &mut Vec<u8>,
+) -> Result<(), AllocError>
+    ensures { OnOk result (out.new.items ≡ out.old.items ++ key_box class.now x y height words.now) }
+{
+    put_bar_start(class, x, y, 34, height, out)?;
+    put_parts(&[Part::Text(words), Part::Text(b"</title></rect>\n")], out)
 }
 
 #[tactic(auto, unfolding(crate::specs::Legend::box_key))]
-fn put_box_key(
-    class: &[u8],
-    x: u64,
-    y: u64,
-    words: &[u8],
-    out: &mut Vec<u8>,
-) -> Result<(), AllocError>
-    requires x { x < 2 ^ 32 }
-    requires y { y < 2 ^ 32 }
-    ensures key { OnOk result (out.new.items ≡ out.old.items ++ box_key class.now x y words.now) }
+fn put_box_key(key: Key, x: u64, y: u64, out: &mut Vec<u8>) -> Result<(), AllocError>
+    requires x { x < 1000 }
+    requires y { y < 2 ^ 56 }
+    ensures { OnOk result (out.new.items ≡ out.old.items ++ box_key key x y) }
 {
-    put_bar_start(class, x, y, 24, 12, out)?;
-    put_parts(&[Part::Text(words), Part::Text(b"</title></rect>\n")], out)?;
-    put_word_label(b"key", x + 30, y + 10, words, out)
+    let words = words_of(key);
+    let top = y + key_drop(key);
+    put_key_box(class_of(key), x, top, key_height(key), words, out)?;
+    put_key_words(x, y, words, out)
 }
 
-// A box with a number or a name on it, and its meaning.
+// A box with a word on it, and its meaning.
 #[tactic(auto, unfolding(crate::specs::Legend::sample_key))]
-fn put_sample_key(
+fn put_sample_key(key: Key, x: u64, y: u64, out: &mut Vec<u8>) -> Result<(), AllocError>
+    requires x { x < 1000 }
+    requires y { y < 2 ^ 56 }
+    ensures { OnOk result (out.new.items ≡ out.old.items ++ sample_key key x y) }
+{
+    put_box_key(key, x, y, out)?;
+    put_word_label(sample_class(key), x + 6, y + 13, sample_of(key), out)
+}
+
+#[tactic(auto, unfolding(crate::specs::Legend::key_line))]
+fn put_key_line(
     class: &[u8],
     x: u64,
-    y: u64,
-    sample: &[u8],
+    heights: (u64, u64),
     words: &[u8],
     out: &mut Vec<u8>,
 ) -> Result<(), AllocError>
-    requires x { x < 2 ^ 32 }
-    requires y { y < 2 ^ 32 }
-    ensures key { OnOk result (out.new.items ≡ out.old.items ++ sample_key class.now x y sample.now words.now) }
+    ensures { OnOk result (out.new.items ≡ out.old.items ++ key_line class.now x heights words.now) }
 {
-    put_box_key(class, x, y, words, out)?;
-    put_word_label(b"on", x + 2, y + 10, sample, out)
+    put_path_start(class, x, heights, out)?;
+    put_parts(&[Part::Text(words), Part::Text(b"</title></path>\n")], out)
 }
 
 #[tactic(auto, unfolding(crate::specs::Legend::line_key))]
-fn put_line_key(
-    class: &[u8],
-    x: u64,
-    y: u64,
-    words: &[u8],
-    out: &mut Vec<u8>,
-) -> Result<(), AllocError>
-    requires x { x < 2 ^ 32 }
-    requires y { y < 2 ^ 32 }
-    ensures key { OnOk result (out.new.items ≡ out.old.items ++ line_key class.now x y words.now) }
+fn put_line_key(key: Key, x: u64, y: u64, out: &mut Vec<u8>) -> Result<(), AllocError>
+    requires x { x < 1000 }
+    requires y { y < 2 ^ 56 }
+    ensures { OnOk result (out.new.items ≡ out.old.items ++ line_key key x y) }
 {
-    put_path_start(class, x + 12, (y, y + 14), out)?;
-    put_parts(&[Part::Text(words), Part::Text(b"</title></path>\n")], out)?;
-    put_word_label(b"key", x + 30, y + 10, words, out)
+    let words = words_of(key);
+    put_key_line(class_of(key), x + 16, (y, y + 18), words, out)?;
+    put_key_words(x, y, words, out)
+}
+
+// A word as it stands in the picture, and its meaning.
+#[tactic(auto, unfolding(crate::specs::Legend::word_key))]
+fn put_word_key(key: Key, x: u64, y: u64, out: &mut Vec<u8>) -> Result<(), AllocError>
+    requires x { x < 1000 }
+    requires y { y < 2 ^ 56 }
+    ensures { OnOk result (out.new.items ≡ out.old.items ++ word_key key x y) }
+{
+    put_word_label(class_of(key), x, y + 13, sample_of(key), out)?;
+    put_key_words(x, y, words_of(key), out)
 }
 
 fn put_key(key: Key, x: u64, y: u64, out: &mut Vec<u8>) -> Result<(), AllocError>
-    requires x { x < 2 ^ 32 }
-    requires y { y < 2 ^ 32 }
-    ensures key { OnOk result (out.new.items ≡ out.old.items ++ key_text key x y (shape_of key)) }
+    requires x { x < 1000 }
+    requires y { y < 2 ^ 56 }
+    ensures { OnOk result (out.new.items ≡ out.old.items ++ key_text key x y (shape_of key)) }
 {
     match shape_of(key) {
-        Shape::Box => put_box_key(class_of(key), x, y, words_of(key), out),
-        Shape::Sample => put_sample_key(class_of(key), x, y, sample_of(key), words_of(key), out),
-        Shape::Line => put_line_key(class_of(key), x, y, words_of(key), out),
-        Shape::Word => put_word_label(class_of(key), x, y + 10, words_of(key), out),
+        Shape::Box => put_box_key(key, x, y, out),
+        Shape::Sample => put_sample_key(key, x, y, out),
+        Shape::Line => put_line_key(key, x, y, out),
+        Shape::Word => put_word_key(key, x, y, out),
     }
 }
 
-fn put_key_at(keys: &[Key], n: usize, out: &mut Vec<u8>) -> Result<(), AllocError>
-    ensures { OnOk result (out.new.items ≡ out.old.items ++ key_at keys.now n) }
+fn put_key_at(layout: &Layout, keys: &[Key], n: usize, out: &mut Vec<u8>) -> Result<(), AllocError>
+    ensures { OnOk result (out.new.items ≡ out.old.items ++ key_at layout.now keys.now n) }
 {
     match keys.get(n) {
-        Some(key) => put_key(*key, slot_x(n), slot_y(n), out),
+        Some(key) => put_key(*key, slot_x(n), slot_y(layout, n), out),
         None => Ok(()),
     }
 }
 
-fn put_keys(keys: &[Key], out: &mut Vec<u8>) -> Result<(), AllocError>
-    ensures { OnOk result (out.new.items ≡ out.old.items ++ keys_text keys.now) }
+/// The legend with these keys.
+pub(crate) fn put_keys(layout: &Layout, keys: &[Key], out: &mut Vec<u8>) -> Result<(), AllocError>
+    ensures { OnOk result (out.new.items ≡ out.old.items ++ keys_text layout.now keys.now) }
 {
     for n in 0..keys.len() {
-        put_key_at(keys, n, out)?;
+        put_key_at(layout, keys, n, out)?;
     }
     Ok(())
-}
-
-/// The legend of a picture of the run.
-#[tactic(auto, unfolding(crate::specs::Legend::legend_text))]
-pub(crate) fn put_legend(
-    alloc: Global,
-    work: &Work,
-    layout: &Layout,
-    history: &ByThread,
-    drawn: &Drawn,
-    out: &mut Vec<u8>,
-) -> Result<(), AllocError>
-    ensures { OnOk result (out.new.items ≡ out.old.items ++ legend_text work.now layout.now history.now drawn.now) }
-{
-    let keys = keys_of(alloc, work, layout, history, drawn)?;
-    put_keys(&keys, out)
 }

@@ -6,7 +6,9 @@
 
 mod arrows;
 mod bars;
+mod colours;
 mod head;
+mod held;
 mod labels;
 mod laws;
 mod legend;
@@ -15,6 +17,7 @@ mod notes;
 mod parts;
 mod picture;
 mod pieces;
+mod style;
 
 pub use laws::{timelines_are_plain, titles_need_no_escaping};
 pub use picture::timeline;

@@ -3,7 +3,7 @@
 
 ghost use Rattle.std.specs.Prelude.{◌≡◌, ◌++◌, OnOk, flat_map};
 ghost use Rattle.sd_timeline.specs.Parts.{part_text};
-ghost use Rattle.sd_timeline.specs.Pieces.{bar_end, bar_start, grid_line, label_end, label_start, number_label, path_end, path_start, word_label};
+ghost use Rattle.sd_timeline.specs.Pieces.{bar_end, bar_start, cover, grid_line, label_end, label_start, number_label, path_end, path_start, word_label};
 
 use crate::parts::{Part, put_parts};
 use std::alloc::AllocError;
@@ -41,6 +41,34 @@ pub(crate) fn put_bar_end(out: &mut Vec<u8>) -> Result<(), AllocError>
     ensures { OnOk result (out.new.items ≡ out.old.items ++ bar_end) }
 {
     out.extend_from_slice(b"</title></rect>\n")
+}
+
+/// A rectangle on which nothing is shown.
+#[tactic(auto, unfolding(crate::specs::Pieces::cover, crate::specs::Pieces::box_text, crate::specs::Pieces::attribute))]
+pub(crate) fn put_cover(
+    class: &[u8],
+    x: u64,
+    y: u64,
+    width: u64,
+    height: u64,
+    out: &mut Vec<u8>,
+) -> Result<(), AllocError>
+    ensures { OnOk result (out.new.items ≡ out.old.items ++ cover class.now x y width height) }
+{
+    let parts = [
+        Part::Text(b"<rect class=\""),
+        Part::Text(class),
+        Part::Text(b"\" x=\""),
+        Part::Number(x),
+        Part::Text(b"\" y=\""),
+        Part::Number(y),
+        Part::Text(b"\" width=\""),
+        Part::Number(width),
+        Part::Text(b"\" height=\""),
+        Part::Number(height),
+        Part::Text(b"\"/>\n"),
+    ];
+    put_parts(&parts, out)
 }
 
 /// `<text class=".." x=".." y="..">`

@@ -6,4 +6,4 @@ pub returns : goal.returns
 unfolding start
 returns c =
     simp append_assoc
-    (simp (c.in_ok-put_style.ensures, c.in_ok-put_description.ensures, c.in_ok-put_file_title.ensures, c.in_ok-put_size.ensures, c.in_ok-put_opened.ensures, append_assoc) at c.put_page.ensures)
+    (simp (c.in_ok-put_description.ensures, c.in_ok-put_file_title.ensures, c.in_ok-put_size.ensures, c.in_ok-put_opened.ensures, append_assoc) at c.put_looks.ensures)

@@ -3,4 +3,4 @@ use Rattle.sd_timeline.specs.Legend.{key_at}
 use Rattle.sd_timeline.proofs.legend.put_keys.Goals as goal
 
 pub loop-n-preserved : goal.loop-n-preserved
-loop-n-preserved c = range_pushed (key_at c.args.keys.now) c.loop-n.n _ _ _ c.loop-n.invariant c.in_ok-put_key_at.ensures
+loop-n-preserved c = range_pushed (key_at c.args.layout.now c.args.keys.now) c.loop-n.n _ _ _ c.loop-n.invariant c.in_ok-put_key_at.ensures
