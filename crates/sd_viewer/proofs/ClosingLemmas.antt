@@ -19,7 +19,7 @@ use Rattle.sd_story.specs.Story.{cell, heading, line_blanks, row, row_if, rows_f
 use Rattle.sd_layout.specs.declared.frames.Frame.{Frame}
 use Rattle.sd_layout.specs.Layouts.{Layout}
 use Rattle.sd_timeline.specs.Legend.{Drawn, drawn_of}
-use Rattle.sd_timeline.specs.Picture.{ground_text, laid_out, rows_text, timeline_text}
+use Rattle.sd_timeline.specs.Picture.{ground_text, laid_out, rows_text, shown_holds, timeline_text}
 use Rattle.sd_layout.specs.Rows.{layout_of}
 use Rattle.sd_trace.specs.Flows.{hand_flow, load_event, wake_flow}
 use Rattle.sd_trace.specs.Marks.{mark_text}
@@ -27,7 +27,7 @@ use Rattle.sd_trace.specs.Tracks.{all_tracks, trace_text}
 use Rattle.sd_report.proofs.ClosingLemmas.{report-ends, sheet-ends}
 use Rattle.sd_viewer.specs.declared.drawings.Drawing.{Drawing}
 use Rattle.sd_viewer.specs.declared.drawings.Drawing.TheVariants.{Timeline, Trace, Story, Report, Sheet}
-use Rattle.sd_viewer.specs.Drawings.{IsDrawingOf, IsDrawn, asks_past, counted, end_line, from_to, last_tick, left_line, parts_line, past_line, story_line, threads_line, threads_words, ticks_line, ticks_words, timeline_line}
+use Rattle.sd_viewer.specs.Drawings.{IsDrawingOf, IsDrawn, asks_past, counted, end_line, frame_of, from_to, last_tick, left_line, parts_line, picture_text, past_line, story_line, threads_line, threads_words, ticks_line, ticks_words, timeline_line}
 
 -- what ends with a fixed text and a newline
 behind : (xs fixed : List ℕ) → EndsLine (xs ++ (fixed ++ 10 ∷ []))
@@ -42,10 +42,15 @@ either false xs ys p q = q
 
 laid_out-ends : (w : Work) (f : Layout) (h : History) (s : State) (d : Drawn) → EndsLine (laid_out w f h s d)
 unfolding laid_out
-laid_out-ends w f h s d = behind (ground_text w f h d ++ rows_text w f h d.pieces s) (codes "</svg>")
+laid_out-ends w f h s d = behind (ground_text w f h d ++ rows_text w f h d s) (codes "</svg>")
 
 timeline-ends : (w : Work) (f : Frame) (h : History) (s : State) → EndsLine (timeline_text w f h s)
-timeline-ends w f h s = laid_out-ends w (layout_of w f h) h s (drawn_of w (layout_of w f h) h)
+timeline-ends w f h s =
+    let holds = shown_holds w f h in
+    laid_out-ends w (layout_of w f h holds) h s (drawn_of w (layout_of w f h holds) h holds)
+
+picture-ends : (w : Work) (h : History) (from to : ℕ) (s : State) → EndsLine (picture_text w h from to s)
+picture-ends w h from to s = either (nat_lt from w.limit) (timeline_text w (frame_of w h from to) h s) [] (timeline-ends w (frame_of w h from to) h s) refl
 
 trace-ends : (w : Work) (h : History) → EndsLine (trace_text w h)
 unfolding trace_text
@@ -73,7 +78,7 @@ unfolding story
 story-ends w sel es = EndsLine-append heading (rows_from w sel (opening w) es) refl (rows-end w sel (opening w) es)
 
 drawing-ends : (d : Drawing) (w : Work) (es : List Entry) (text : List ℕ) → IsDrawingOf d w es text → EndsLine text
-drawing-ends (Timeline from to) w es text (h, is, e) = subst EndsLine (sym e) (timeline-ends w _ h _)
+drawing-ends (Timeline from to) w es text (h, is, e) = subst EndsLine (sym e) (picture-ends w h from to _)
 drawing-ends Trace w es text (h, is, e) = subst EndsLine (sym e) (trace-ends w h)
 drawing-ends (Story sel) w es text e = subst EndsLine (sym e) (story-ends w sel es)
 drawing-ends Report w es text (h, is, e) = subst EndsLine (sym e) (report-ends w h _)
@@ -119,7 +124,8 @@ parts-end w from to =
 timeline_line-ends : (w : Work) (from to : ℕ) → EndsLine (timeline_line w from to)
 unfolding timeline_line
 timeline_line-ends w from to =
-    either (nat_lt from w.limit) (parts_line w from to) (past_line (codes "timeline") w) (parts-end w from to) (past-ends (codes "timeline") w)
+    either (nat_lt from w.limit) (parts_line w from to) (past_line (codes "timeline: no picture is drawn") w) (parts-end w from to)
+    (past-ends (codes "timeline: no picture is drawn") w)
 
 story_line-ends : (w : Work) (sel : Selection) → EndsLine (story_line w sel)
 unfolding story_line

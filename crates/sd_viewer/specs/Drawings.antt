@@ -1,15 +1,17 @@
 -- What is drawn of a journal.
 -- Source: this project's own.
-use Rattle.std.specs.Prelude.{◌≡◌, ℕ, Bool, ◌&&◌, ◌+◌, ◌-◌, min, nat_lt, List, [], ◌++◌, length, codes, decimal, if◌then◌else◌}
+use Rattle.std.specs.Prelude.{◌≡◌, ℕ, Bool, ◌&&◌, ◌+◌, ◌-◌, ◌/◌, ◌==◌, max, min, nat_lt, List, [], ◌++◌, length, codes, decimal, if◌then◌else◌}
 use Rattle.sd_types.specs.declared.events.Entry.{Entry}
 use Rattle.sd_types.specs.declared.works.Work.{Work}
 use Rattle.sd_types.specs.Limits.{greatest_limit}
+use Rattle.sd_state.specs.declared.states.State.{State}
 use Rattle.sd_state.specs.Opening.{opening}
 use Rattle.sd_machine.specs.Runs.{final, IsComplete}
 use Rattle.sd_stretches.specs.declared.histories.History.{History}
 use Rattle.sd_stretches.specs.Histories.{IsHistory}
 use Rattle.sd_audit.specs.Audits.{IsJournalOf}
 use Rattle.sd_layout.specs.declared.frames.Frame.{Frame}
+use Rattle.sd_layout.specs.Frames.{last_act}
 use Rattle.sd_timeline.specs.Picture.{timeline_text}
 use Rattle.sd_trace.specs.Tracks.{trace_text}
 use Rattle.sd_report.specs.Sheets.{sheet_text}
@@ -31,8 +33,17 @@ last_tick w from to = min (min to w.limit) (first_tick w from + 2000)
 abbrev pub rows : Work → ℕ
 rows w = min (length w.threads) 100
 
-abbrev pub frame_of : Work → ℕ → ℕ → Frame
-frame_of w from to = record { from = first_tick w from; to = last_tick w from to; cpus = w.cpus; threads = rows w }
+-- a tenth more of the ticks up to the last at which anything happens, and one, so that it is seen how things stand then
+abbrev pub shown_act : History → ℕ
+shown_act h = last_act h.happenings.items + last_act h.happenings.items / 10 + 1
+
+-- where all ticks are asked for, those behind it are cut off, but for the first one of all
+abbrev pub cut_tick : Work → History → ℕ → ℕ → ℕ
+cut_tick w h from to =
+    if to == greatest_limit then min (last_tick w from to) (max (shown_act h) (first_tick w from + 1)) else last_tick w from to
+
+abbrev pub frame_of : Work → History → ℕ → ℕ → Frame
+frame_of w h from to = record { from = first_tick w from; to = cut_tick w h from to; cpus = w.cpus; threads = rows w }
 
 -- a word and a number
 abbrev pub counted : List ℕ → ℕ → List ℕ
@@ -69,9 +80,9 @@ end_line form w to = if asks_past w to then past_line form w else []
 unfoldable pub parts_line : Work → ℕ → ℕ → List ℕ
 parts_line w from to = end_line (codes "timeline") w to ++ ticks_line w from to ++ threads_line w
 
--- where the run has none of the ticks, its last state is drawn
+-- where the run has none of the ticks, nothing is drawn
 unfoldable pub timeline_line : Work → ℕ → ℕ → List ℕ
-timeline_line w from to = if nat_lt from w.limit then parts_line w from to else past_line (codes "timeline") w
+timeline_line w from to = if nat_lt from w.limit then parts_line w from to else past_line (codes "timeline: no picture is drawn") w
 
 -- what happens at the last tick, behind all, is told too
 unfoldable pub story_line : Work → Selection → List ℕ
@@ -86,9 +97,13 @@ left_line (Story selection) w = story_line w selection
 left_line Report w = []
 left_line Sheet w = []
 
+-- the picture of the ticks from a to b, of a run with this history and this last state; there is none where the run has none of the ticks
+abbrev pub picture_text : Work → History → ℕ → ℕ → State → List ℕ
+picture_text w h from to end = if nat_lt from w.limit then timeline_text w (frame_of w h from to) h end else []
+
 -- the text is the drawing of the run of these entries
 abbrev pub IsDrawingOf : Drawing → Work → List Entry → List ℕ → Type 0
-IsDrawingOf (Timeline from to) w es text = (h : History) × IsHistory w es h × (text ≡ timeline_text w (frame_of w from to) h (final w (opening w) es))
+IsDrawingOf (Timeline from to) w es text = (h : History) × IsHistory w es h × (text ≡ picture_text w h from to (final w (opening w) es))
 IsDrawingOf Trace w es text = (h : History) × IsHistory w es h × (text ≡ trace_text w h)
 IsDrawingOf (Story selection) w es text = text ≡ story w selection es
 IsDrawingOf Report w es text = (h : History) × IsHistory w es h × (text ≡ report_text w h (final w (opening w) es))

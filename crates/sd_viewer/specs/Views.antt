@@ -4,7 +4,6 @@ use Rattle.std.specs.Prelude.{ℕ, List}
 use Rattle.sd_types.specs.declared.works.Work.{Work}
 use Rattle.sd_state.specs.declared.states.State.{State}
 use Rattle.sd_stretches.specs.declared.histories.History.{History}
-use Rattle.sd_timeline.specs.Picture.{timeline_text}
 use Rattle.sd_trace.specs.Tracks.{trace_text}
 use Rattle.sd_report.specs.Sheets.{sheet_text}
 use Rattle.sd_report.specs.Tables.{report_text}
@@ -12,7 +11,7 @@ use Rattle.sd_viewer.specs.declared.drawings.Drawing.{Drawing}
 use Rattle.sd_viewer.specs.declared.drawings.Drawing.TheVariants as drawing
 use Rattle.sd_viewer.specs.declared.drawings.View.{View}
 use Rattle.sd_viewer.specs.declared.drawings.View.TheVariants.{Timeline, Trace, Report, Sheet}
-use Rattle.sd_viewer.specs.Drawings.{frame_of}
+use Rattle.sd_viewer.specs.Drawings.{picture_text}
 
 abbrev pub drawing_of : View → Drawing
 drawing_of (Timeline from to) = drawing.Timeline from to
@@ -22,7 +21,7 @@ drawing_of Sheet = drawing.Sheet
 
 -- the text, of a run with this history and this last state
 abbrev pub view_text : View → Work → History → State → List ℕ
-view_text (Timeline from to) w h end = timeline_text w (frame_of w from to) h end
+view_text (Timeline from to) w h end = picture_text w h from to end
 view_text Trace w h end = trace_text w h
 view_text Report w h end = report_text w h end
 view_text Sheet w h end = sheet_text w h end

@@ -4,14 +4,16 @@ ghost use Rattle.std.specs.Prelude.{◌≡◌, ◌<◌, ◌^◌, ℕ, IfOk, IfEr
 ghost use Rattle.sd_state.specs.declared.states.State.{State as StateValue};
 ghost use Rattle.sd_machine.specs.LockGraph.{cycles_of};
 ghost use Rattle.sd_audit.specs.Audits.{IsFault, IsJournal, IsMemory};
-ghost use Rattle.sd_viewer.specs.Drawings.{IsDrawn};
+ghost use Rattle.sd_viewer.specs.Drawings.{IsDrawn, picture_text};
 ghost use Rattle.sd_viewer.specs.Views.{drawing_of, view_text};
 
 use crate::frames::frame_of;
 use crate::gathering::{Gathered, gather};
 use sd_audit::AuditFault;
 use sd_report::{report, sheet};
+use sd_state::State;
 use sd_story::{Selection, tell};
+use sd_stretches::ByThread;
 use sd_timeline::timeline;
 use sd_trace::trace;
 use sd_types::Work;
@@ -37,6 +39,27 @@ enum View {
     Sheet,
 }
 
+/// The picture of the ticks from `from` to `to`, of a run with this history, this last state and its blocking cycles; there is none where
+/// the run has none of the ticks.
+fn picture(
+    alloc: Global,
+    work: &Work,
+    from: u32,
+    to: u32,
+    history: &ByThread,
+    end: &State,
+    cycles: &[Vec<usize>],
+) -> Result<Vec<u8>, AllocError>
+    requires { map (λ v. v.items) cycles.now ≡ cycles_of end.now }
+    ensures { IfOk result (λ text. text.items ≡ picture_text work.now history.now from to end.now) }
+{
+    if work.limit <= from {
+        return Ok(Vec::new(alloc));
+    }
+    let frame = frame_of(work, &history.history, from, to);
+    timeline(alloc, work, frame, history, end, cycles)
+}
+
 /// What the view shows of a run.
 fn view_text(alloc: Global, work: &Work, view: View, run: Gathered) -> Result<Vec<u8>, AllocError>
     requires { map (λ v. v.items) run.cycles.items ≡ cycles_of run.end }
@@ -50,10 +73,7 @@ fn view_text(alloc: Global, work: &Work, view: View, run: Gathered) -> Result<Ve
     } = run;
     let history = history.by_thread(alloc)?;
     match view {
-        View::Timeline { from, to } => {
-            let frame = frame_of(work, from, to);
-            timeline(alloc, work, frame, &history, &end, &cycles)
-        }
+        View::Timeline { from, to } => picture(alloc, work, from, to, &history, &end, &cycles),
         View::Trace => trace(alloc, work, &history),
         View::Report => report(alloc, work, &history, &end),
         View::Sheet => sheet(alloc, work, &history, &end),

@@ -128,7 +128,7 @@ fn put_timeline_line(work: &Work, from: u32, to: u32, out: &mut Vec<u8>) -> Resu
     if from < work.limit {
         put_parts_line(work, from, to, out)
     } else {
-        put_past(b"timeline", work, out)
+        put_past(b"timeline: no picture is drawn", work, out)
     }
 }
 
