@@ -3,7 +3,7 @@
 use crate::accounts::{wrong_places, wrong_run};
 use crate::audits::wrong_verdict;
 use crate::deadlines::wrong_deadlines;
-use crate::drawings::{wrong_drawing, wrong_story};
+use crate::drawings::{wrong_drawing, wrong_picture, wrong_story};
 use crate::reports::{wrong_jobs, wrong_report};
 use crate::sentences::{Half, wrong_sentence};
 use crate::{accounts, audits, deadlines, drawings, reports, sentences};
@@ -21,6 +21,7 @@ pub enum Judged {
     Places,
     Journals,
     Drawings,
+    Picture,
     Stories,
     Report,
     Jobs,
@@ -35,6 +36,7 @@ fn workload_of(judged: Judged) -> &'static [u8] {
         Judged::Run | Judged::Places => accounts::SMALL,
         Judged::Journals => audits::WORK,
         Judged::Drawings | Judged::Stories => drawings::WORKLOAD,
+        Judged::Picture => drawings::LOCKED,
         Judged::Report => reports::WORKLOAD,
         Judged::Jobs => reports::JOBS_WORKLOAD,
         Judged::Deadlines => deadlines::WORKLOAD,
@@ -53,6 +55,7 @@ fn wrong_in(
         Judged::Places => wrong_places(alloc, work),
         Judged::Journals => Ok(wrong_verdict(alloc, work)),
         Judged::Drawings => Ok(wrong_drawing(alloc, work)),
+        Judged::Picture => Ok(wrong_picture(alloc, work)),
         Judged::Stories => Ok(wrong_story(alloc, work)),
         Judged::Report => wrong_report(alloc, work),
         Judged::Jobs => wrong_jobs(alloc, work),

@@ -66,7 +66,12 @@ pub(crate) fn bar_height(doing: Doing) -> u64
 
 // From one number to another.
 #[tactic(auto, unfolding(crate::specs::Bars::between))]
-pub(crate) fn put_between(word: &[u8], from: u64, to: u64, out: &mut Vec<u8>) -> Result<(), AllocError>
+pub(crate) fn put_between(
+    word: &[u8],
+    from: u64,
+    to: u64,
+    out: &mut Vec<u8>,
+) -> Result<(), AllocError>
     ensures { OnOk result (out.new.items ≡ out.old.items ++ between word.now from to) }
 {
     let parts = [
@@ -210,19 +215,12 @@ pub(crate) fn has_number(width: u64, doing: Doing) -> bool
 }
 
 // In the row of a processor the thread.
-fn put_on_cpu_bar(
-    work: &Work,
-    spot: Spot,
-    x: &Stretch,
-    out: &mut Vec<u8>,
-) -> Result<(), AllocError>
+fn put_on_cpu_bar(work: &Work, spot: Spot, x: &Stretch, out: &mut Vec<u8>) -> Result<(), AllocError>
     ensures { OnOk result (out.new.items ≡ out.old.items ++ on_cpu_bar work.now spot x.now x.now.doing) }
 {
     let name = thread_name(work, x.thread);
     match x.doing {
-        Doing::Running(_) => {
-            put_word(colour_name(colour_of(x.thread)), b"on", spot, name, out)
-        }
+        Doing::Running(_) => { put_word(colour_name(colour_of(x.thread)), b"on", spot, name, out) }
         _ => put_word(b"plate", b"in", spot, name, out),
     }
 }
@@ -265,12 +263,7 @@ fn put_on_bar(
 }
 
 // The texture of the thread, where it runs, and the upright where it has ended.
-fn put_over_bar(
-    layout: &Layout,
-    row: Row,
-    x: &Stretch,
-    out: &mut Vec<u8>,
-) -> Result<(), AllocError>
+fn put_over_bar(layout: &Layout, row: Row, x: &Stretch, out: &mut Vec<u8>) -> Result<(), AllocError>
     ensures { OnOk result (out.new.items ≡ out.old.items ++ over_bar layout.now row x.now x.now.doing) }
 {
     let column = layout.column(x.from);

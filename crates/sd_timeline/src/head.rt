@@ -8,7 +8,9 @@ ghost use Rattle.sd_timeline.specs.Style.{page, patterns, style};
 
 use crate::colours::{colour_name, colour_of, put_texture, texture_of};
 use crate::parts::{Part, put_parts};
-use crate::pieces::{put_cover, put_label_end, put_label_start, put_line, put_number_label, put_word_label};
+use crate::pieces::{
+    put_cover, put_label_end, put_label_start, put_line, put_number_label, put_word_label,
+};
 use crate::style::{put_page, put_patterns, put_style};
 use sd_layout::{Column, Layout, Row};
 use sd_rules::set_of_cpu;
@@ -122,12 +124,7 @@ fn put_looks(out: &mut Vec<u8>) -> Result<(), AllocError>
 
 // The start of the file, up to the white page.
 #[tactic(auto, unfolding(crate::specs::Head::start))]
-fn put_start(
-    work: &Work,
-    layout: &Layout,
-    lines: u64,
-    out: &mut Vec<u8>,
-) -> Result<(), AllocError>
+fn put_start(work: &Work, layout: &Layout, lines: u64, out: &mut Vec<u8>) -> Result<(), AllocError>
     requires { lines < 2 ^ 32 }
     ensures { OnOk result (out.new.items ≡ out.old.items ++ start work.now layout.now lines) }
 {

@@ -175,7 +175,14 @@ fn put_raised_line(layout: &Layout, t: u16, x: &Level, out: &mut Vec<u8>) -> Res
 {
     if x.inherited {
         let width = layout.width(x.from, x.to);
-        put_cover(b"raised", layout.column(x.from), layout.over(t) + 13, width, 2, out)
+        put_cover(
+            b"raised",
+            layout.column(x.from),
+            layout.over(t) + 13,
+            width,
+            2,
+            out,
+        )
     } else {
         Ok(())
     }

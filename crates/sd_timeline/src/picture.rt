@@ -154,7 +154,12 @@ fn put_arrows(
 
 // What lies above and under the rows.
 #[tactic(auto, unfolding(crate::specs::Picture::frame_text))]
-fn put_frame(work: &Work, layout: &Layout, keys: &[Key], out: &mut Vec<u8>) -> Result<(), AllocError>
+fn put_frame(
+    work: &Work,
+    layout: &Layout,
+    keys: &[Key],
+    out: &mut Vec<u8>,
+) -> Result<(), AllocError>
     ensures { OnOk result (out.new.items ≡ out.old.items ++ frame_text work.now layout.now keys.now) }
 {
     put_head(work, layout, lines_of(keys), out)?;
