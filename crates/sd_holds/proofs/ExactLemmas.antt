@@ -1,6 +1,6 @@
 -- The holds of a run are exact.
 use Rattle.std.proofs.Common.{◌≡◌, ℕ, zero, suc, ◌+◌, ◌<◌, ◌≤◌, ◌⊎◌, Bool, true, false, ◌||◌, inl, inr, List, [], ◌∷◌, ◌++◌, length, take, Option, Some, None, refl, sym, ap, subst, ◌∙◌, append_assoc, arith, add-one}
-use Rattle.std.specs.Prelude.{◌≢◌, ◌==◌, ◌&&◌, not, if◌then◌else◌, filter, option_map, slice_get}
+use Rattle.std.specs.Prelude.{◌≢◌, ◌==◌, ◌&&◌, not, if◌then◌else◌, slice_get}
 use Rattle.std.specs.List.{flat_map, range_with_len}
 use Rattle.std.proofs.lemmas.Bool.{false≢true, cases_Bool}
 use Rattle.std.proofs.lemmas.Bool.Decides.{nat_tests}
@@ -11,28 +11,26 @@ use Rattle.sd_types.specs.declared.events.Event.{Event}
 use Rattle.sd_types.specs.declared.events.Event.TheVariants.{Enter, Read, Write, Grant, Exit, CvWait}
 use Rattle.sd_types.specs.declared.events.Entry.{Entry}
 use Rattle.sd_types.specs.declared.works.Work.{Work}
-use Rattle.sd_types.specs.Scripts.{is_held, is_lock, without_lock}
+use Rattle.sd_types.specs.Scripts.{is_held, without_lock}
 use Rattle.sd_state.specs.declared.states.State.{State}
 use Rattle.sd_state.specs.Opening.{first_thread, opening}
 use Rattle.sd_types.specs.declared.works.ThreadDecl.{ThreadDecl}
 use Rattle.sd_state.specs.States.{thread_of}
 use Rattle.sd_machine.specs.Events.{after}
-use Rattle.sd_machine.specs.Runs.{final, IsRun, IsRunFrom, IsStep, state_at}
+use Rattle.sd_machine.specs.Runs.{final, IsRunFrom}
 use Rattle.sd_machine.proofs.Moves.{put_cases}
 use Rattle.sd_state.proofs.Declared.{opening_each}
 use Rattle.sd_machine.proofs.RunLemmas.{IsRun-from, final-nil, final-push}
 use Rattle.sd_frames.proofs.HoldTable.{held_part, Goes}
-use Rattle.sd_frames.proofs.OpTable.{ender}
 use Rattle.sd_invariants.proofs.ScriptLemmas.{HeldGo, after_held, ender_in}
 use Rattle.sd_invariants.proofs.AgreedAfter.{IsReady}
 use Rattle.sd_invariants.proofs.Ready.{next_ready, opening_ready, ready_cause}
 use Rattle.sd_stretches.specs.declared.changes.Happening.{Happening}
 use Rattle.sd_stretches.specs.Changes.{happening_of, happenings_of}
-use Rattle.sd_stretches.specs.Histories.{entry_before, happenings_in, moment, over}
-use Rattle.sd_stretches.specs.Rows.{next_of}
+use Rattle.sd_stretches.specs.Histories.{happenings_in, moment, over}
 use Rattle.sd_holds.specs.declared.holdings.Hold.{Hold}
 use Rattle.sd_holds.specs.Holds.{end_of, gives_up, hold_if, hold_to, holds, taken}
-use Rattle.sd_holds.specs.Exact.{AnyHolds, HoldsAreExact, IsHeldBy, UpTo}
+use Rattle.sd_holds.specs.Exact.{AnyHolds, HoldsAreExact, UpTo}
 use Rattle.sd_holds.proofs.ListLemmas.{holds_cons, holds_none}
 
 -- The entries of a run that goes on from a state, as a history keeps them.
