@@ -53,6 +53,7 @@ use Rattle.sd_timeline.specs.declared.colours.Texture.TheVariants.{Plain, Dots, 
 use Rattle.sd_timeline.specs.declared.bars.Spot.{Spot}
 use Rattle.sd_timeline.specs.Colours.{colour_name, colour_of, run_class, spin_class, texture_cover, texture_of}
 use Rattle.sd_timeline.specs.Bars.{bar_box, bar_class, bar_drop, bar_height, bar_text, between, cpu_on, cpu_word, fits, letter_ground, on_bar, on_cpu_bar, on_thread_bar, over_bar, place_text, run_bar, run_bar_by, spot_of, stretch_bar, stretch_title, times_text, word_on, word_text}
+use Rattle.sd_timeline.specs.Circles.{circle, dead_threads, is_among, last_wants, ring_at, ring_text, ring_words, rings_text}
 use Rattle.sd_timeline.specs.Held.{band_text, bands_text, held_title, held_words, lock_word}
 use Rattle.sd_timeline.specs.Style.{colours, forms, letters, lines, page, patterns, state_patterns, stripes, style, textures, thread_patterns, tips}
 use Rattle.sd_timeline.specs.Arrows.{arrow_start, hand_path, hand_rows, hand_text, hand_texts, hand_title, heights, is_drawn_wake, nth_at, waiter_text, wake_by, wake_path, wake_rows, wake_text, wake_title}
@@ -61,7 +62,7 @@ use Rattle.sd_timeline.specs.Legend.{Drawn, box_key, class_of, drawn_of, key_at,
 use Rattle.sd_timeline.specs.Moments.{cpu_moment, is_moment, moment_line, moment_lines, moment_text, thread_moment}
 use Rattle.sd_timeline.specs.Notes.{assign_note, bind_note, bound_words, note_by, note_text, set_note, set_words, thread_note}
 use Rattle.sd_timeline.specs.Head.{axis, bound_label, counts_text, cpu_head, description, file_title, fold_marks, head, heading, inner_number, mark, mark_if, measures, opened, rowless, rowless_text, set_label, size, start, swatch, thread_head, ticks_text, view_box}
-use Rattle.sd_timeline.specs.Picture.{bound_of, frame_text, ground_text, laid_out, marks_text, own_row, row_text, rows_text, shown_holds, thread_text, timeline_text, with_holds}
+use Rattle.sd_timeline.specs.Picture.{all_marks, bound_of, frame_text, ground_text, laid_out, marks_text, own_row, row_text, rows_text, shown_holds, thread_text, timeline_text, with_holds}
 use Rattle.sd_layout.specs.Rows.{layout_of}
 use Rattle.sd_timeline.specs.Plain.{HasPlainTitles}
 
@@ -128,23 +129,23 @@ bar-title w x = simp (list_all-append is_plain_byte, thread-plain w x.thread, do
 title-text : (w : Work) (x : Stretch) → IsText (stretch_title w x)
 title-text w x = plain-text (stretch_title w x) (bar-title w x)
 
-ground-text : (class : List ℕ) (p : Spot) (len : ℕ) → IsText class → IsText (letter_ground class p len)
-ground-text class p len h = cover-text class p.ground p.top (8 * len + 6) 14 h
+plate-text : (class : List ℕ) (p : Spot) (len : ℕ) → IsText class → IsText (letter_ground class p len)
+plate-text class p len h = cover-text class p.plate p.top (8 * len + 6) 14 h
 
-word-on-text : (ground class : List ℕ) (p : Spot) (word : List ℕ) → IsText ground → IsText class → IsText word → IsText (word_on ground class p word)
+word-on-text : (plate class : List ℕ) (p : Spot) (word : List ℕ) → IsText plate → IsText class → IsText word → IsText (word_on plate class p word)
 unfolding word_on
-word-on-text ground class p word g h k =
-    append-text (letter_ground ground p (length word)) (word_label class p.words p.base word) (ground-text ground p (length word) g)
+word-on-text plate class p word g h k =
+    append-text (letter_ground plate p (length word)) (word_label class p.words p.base word) (plate-text plate p (length word) g)
     (word-label-text class p.words p.base word h k)
 
-word-text : (ground class : List ℕ) (p : Spot) (word : List ℕ) → IsText ground → IsText class → IsText word → IsText (word_text ground class p word)
-word-text ground class p word g h k = either-text (fits (length word) p.width) (word_on ground class p word) [] (word-on-text ground class p word g h k) refl
+word-text : (plate class : List ℕ) (p : Spot) (word : List ℕ) → IsText plate → IsText class → IsText word → IsText (word_text plate class p word)
+word-text plate class p word g h k = either-text (fits (length word) p.width) (word_on plate class p word) [] (word-on-text plate class p word g h k) refl
 
 cpu-on-text : (t : ℕ) (p : Spot) (len : ℕ) (word : List ℕ) (c : CpuId) → IsText word → IsText (cpu_on t p len word c)
 unfolding cpu_on
 cpu-on-text t p len word c h =
     append-text (letter_ground (colour_name (colour_of t)) p len) (number_label (codes "on") p.words p.base word c.0)
-    (ground-text (colour_name (colour_of t)) p len (colour-text (colour_of t))) (number-label-text (codes "on") p.words p.base word c.0 refl h)
+    (plate-text (colour_name (colour_of t)) p len (colour-text (colour_of t))) (number-label-text (codes "on") p.words p.base word c.0 refl h)
 
 cpu-short-text : (t : ℕ) (p : Spot) (c : CpuId) → IsText (if fits 2 p.width then cpu_on t p 2 [] c else [])
 cpu-short-text t p c = either-text (fits 2 p.width) (cpu_on t p 2 [] c) [] (cpu-on-text t p 2 [] c refl) refl
@@ -622,18 +623,40 @@ thread-row-text w f h holds s t =
     let own = pieces (track.Thread t) h w.limit in
     simp (list_all-append is_text_byte, flat-text (run_bar w f) (run-text w f) own, row-text w f h holds s t own (row_of f t))
 
-marks-text : (f : Layout) (h : History) (s : State) → IsText (marks_text f h s)
-marks-text f h s =
-    either-text (ltb f.to (last_act h.happenings.items)) [] (flat_map (flat_map (mark_text f)) (cycles_of s)) refl
-    (flat-text (flat_map (mark_text f)) (flat-text (mark_text f) (mark-text f)) (cycles_of s))
+ring-words-text : (d : Doing) → IsText (ring_words d)
+ring-words-text (Spinning c l) = refl
+ring-words-text d = refl
+
+ring-at-text : (f : Layout) (d : Doing) (row : Option ℕ) → IsText (ring_at f d row)
+ring-at-text f d None = refl
+ring-at-text f d (Some row) = word-label-text (codes "ring") (inside f f.to) (base f (Thread row)) (ring_words d) refl (ring-words-text d)
+
+ring-text : (f : Layout) (dead : List ℕ) (x : Stretch) → IsText (ring_text f dead x)
+ring-text f dead x =
+    either-text (is_among dead x.thread) [] (ring_at f x.doing (row_of f x.thread)) refl (ring-at-text f x.doing (row_of f x.thread))
+
+rings-text : (w : Work) (f : Layout) (holds : List Hold) (pieces : List Stretch) (cycles : List (List ℕ)) → IsText (rings_text w f holds pieces cycles)
+unfolding rings_text
+rings-text w f holds pieces cycles =
+    flat-text (ring_text f (dead_threads cycles)) (ring-text f (dead_threads cycles)) (circle holds (last_wants w f pieces))
+
+all-marks-text : (w : Work) (f : Layout) (d : Drawn) (cycles : List (List ℕ)) → IsText (all_marks w f d cycles)
+unfolding all_marks
+all-marks-text w f d cycles =
+    append-text (flat_map (flat_map (mark_text f)) cycles) (rings_text w f d.holds d.pieces cycles)
+    (flat-text (flat_map (mark_text f)) (flat-text (mark_text f) (mark-text f)) cycles) (rings-text w f d.holds d.pieces cycles)
+
+marks-text : (w : Work) (f : Layout) (h : History) (d : Drawn) (s : State) → IsText (marks_text w f h d s)
+marks-text w f h d s =
+    either-text (ltb f.to (last_act h.happenings.items)) [] (all_marks w f d (cycles_of s)) refl (all-marks-text w f d (cycles_of s))
 
 frame-text : (w : Work) (f : Layout) (keys : List Key) → IsText (frame_text w f keys)
 unfolding frame_text
 frame-text w f keys = append-text (head w f (lines_of keys)) (keys_text f keys) (head-text w f (lines_of keys)) (keys-text f keys)
 
-ground-all-text : (w : Work) (f : Layout) (h : History) (d : Drawn) → IsText (ground_text w f h d)
+plate-all-text : (w : Work) (f : Layout) (h : History) (d : Drawn) → IsText (ground_text w f h d)
 unfolding ground_text
-ground-all-text w f h d =
+plate-all-text w f h d =
     simp (
       list_all-append is_text_byte,
       frame-text w f (keys_of f h d),
@@ -649,13 +672,13 @@ rows-text w f h d s =
       flat-text (thread_text w f h d.holds s) (thread-row-text w f h d.holds s) (range_with_len 0 (length w.threads)),
       flat-text (moment_text w f) (moment-text w f) d.pieces,
       flat-text (note_text w f) (note-text w f) h.happenings.items,
-      marks-text f h s,
+      marks-text w f h d s,
       flat-text (fold_text f) (fold-text f) f.folds,
     )
 
 laid-out-text : (w : Work) (f : Layout) (h : History) (s : State) (d : Drawn) → IsText (laid_out w f h s d)
 unfolding laid_out
-laid-out-text w f h s d = simp (list_all-append is_text_byte, ground-all-text w f h d, rows-text w f h d s)
+laid-out-text w f h s d = simp (list_all-append is_text_byte, plate-all-text w f h d, rows-text w f h d s)
 
 with-holds-text : (w : Work) (f : Frame) (h : History) (s : State) (holds : List Hold) → IsText (with_holds w f h s holds)
 with-holds-text w f h s holds = laid-out-text w (layout_of w f h holds) h s (drawn_of w (layout_of w f h holds) h holds)

@@ -59,24 +59,24 @@ place_text x = times_text x ++ (codes ", priority " ++ decimal x.priority) ++ be
 unfoldable pub stretch_title : Work → Stretch → List ℕ
 stretch_title w x = thread_name w x.thread ++ codes ": " ++ doing_text w x.doing ++ place_text x
 
--- a word of so many letters fits into this width, with its ground
+-- a word of so many letters fits into this width, with its plate
 abbrev pub fits : ℕ → ℕ → Bool
 fits len width = nat_lt 0 len && nat_le len ((width - 10) / 8)
 
 -- where words stand on a bar
 abbrev pub spot_of : Layout → Row → Stretch → Spot
-spot_of f row x = record { ground = inside f x.from; words = beside f x.from; top = top f row + 2; base = base f row; width = width f x.from x.to }
+spot_of f row x = record { plate = inside f x.from; words = beside f x.from; top = top f row + 2; base = base f row; width = width f x.from x.to }
 
--- the plain ground of so many letters
+-- the plain plate of so many letters
 abbrev pub letter_ground : List ℕ → Spot → ℕ → List ℕ
-letter_ground class p len = cover class p.ground p.top (8 * len + 6) 14
+letter_ground class p len = cover class p.plate p.top (8 * len + 6) 14
 
--- a word on its ground, where it fits
+-- a word on its plate, where it fits
 unfoldable pub word_on : List ℕ → List ℕ → Spot → List ℕ → List ℕ
-word_on ground class p word = letter_ground ground p (length word) ++ word_label class p.words p.base word
+word_on plate class p word = letter_ground plate p (length word) ++ word_label class p.words p.base word
 
 abbrev pub word_text : List ℕ → List ℕ → Spot → List ℕ → List ℕ
-word_text ground class p word = if fits (length word) p.width then word_on ground class p word else []
+word_text plate class p word = if fits (length word) p.width then word_on plate class p word else []
 
 -- the processor on which a thread runs, as far as there is room for the word
 unfoldable pub cpu_on : ℕ → Spot → ℕ → List ℕ → CpuId → List ℕ

@@ -7,6 +7,7 @@ pub mod Arrows
 pub mod Held
 pub mod Labels
 pub mod Legend
+pub mod Circles
 pub mod Moments
 pub mod Notes
 pub mod Head

@@ -25,6 +25,7 @@ use Rattle.sd_timeline.specs.Labels.{fold_text, level_text, mark_text}
 use Rattle.sd_timeline.specs.Head.{bound_label, head, thread_head}
 use Rattle.sd_timeline.specs.declared.legend.Key.{Key}
 use Rattle.sd_timeline.specs.Legend.{Drawn, drawn_of, keys_of, keys_text, lines_of}
+use Rattle.sd_timeline.specs.Circles.{rings_text}
 use Rattle.sd_timeline.specs.Held.{bands_text}
 use Rattle.sd_timeline.specs.Moments.{moment_text}
 use Rattle.sd_timeline.specs.Notes.{note_text}
@@ -49,9 +50,13 @@ unfoldable pub thread_text : Work → Layout → History → List Hold → State
 thread_text w f h holds s t =
     flat_map (run_bar w f) (pieces (track.Thread t) h w.limit) ++ row_text w f h holds s t (pieces (track.Thread t) h w.limit) (row_of f t)
 
--- the marks of threads that block each other in the last state, where all that happens up to the end is drawn
-abbrev pub marks_text : Layout → History → State → List ℕ
-marks_text f h s = if nat_lt f.to (last_act h.happenings.items) then [] else flat_map (flat_map (mark_text f)) (cycles_of s)
+-- the marks of threads in these blocking cycles, and of those in other circles of wants
+unfoldable pub all_marks : Work → Layout → Drawn → List (List ℕ) → List ℕ
+all_marks w f d cycles = flat_map (flat_map (mark_text f)) cycles ++ rings_text w f d.holds d.pieces cycles
+
+-- the marks of the last state, where all that happens up to the end is drawn
+abbrev pub marks_text : Work → Layout → History → Drawn → State → List ℕ
+marks_text w f h d s = if nat_lt f.to (last_act h.happenings.items) then [] else all_marks w f d (cycles_of s)
 
 -- what lies above and under the rows, with these keys of the legend
 unfoldable pub frame_text : Work → Layout → List Key → List ℕ
@@ -67,7 +72,7 @@ ground_text w f h d = frame_text w f (keys_of f h d) ++ arrows_text w f h d
 unfoldable pub rows_text : Work → Layout → History → Drawn → State → List ℕ
 rows_text w f h d s =
     flat_map (thread_text w f h d.holds s) (range_with_len 0 (length w.threads)) ++ flat_map (moment_text w f) d.pieces
-    ++ flat_map (note_text w f) h.happenings.items ++ marks_text f h s ++ flat_map (fold_text f) f.folds
+    ++ flat_map (note_text w f) h.happenings.items ++ marks_text w f h d s ++ flat_map (fold_text f) f.folds
 
 unfoldable pub laid_out : Work → Layout → History → State → Drawn → List ℕ
 laid_out w f h s d = ground_text w f h d ++ rows_text w f h d s ++ codes "</svg>\n"

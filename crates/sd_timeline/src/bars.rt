@@ -11,11 +11,11 @@ use sd_stretches::{Doing, Stretch, chan_name, lock_name, put_counted, put_doing,
 use sd_types::{CpuId, Work};
 use std::alloc::AllocError;
 
-/// Where words stand on a bar: where their plain ground begins, and they do; the top of the ground, and the base line of the words; and
+/// Where words stand on a bar: where their plain plate begins, and they do; the top of the plate, and the base line of the words; and
 /// how long the bar is.
 #[derive(Clone, Copy)]
 pub(crate) struct Spot {
-    pub(crate) ground: u64,
+    pub(crate) plate: u64,
     pub(crate) words: u64,
     pub(crate) top: u64,
     pub(crate) base: u64,
@@ -114,7 +114,7 @@ pub(crate) fn put_title(work: &Work, x: &Stretch, out: &mut Vec<u8>) -> Result<(
     put_place(x, out)
 }
 
-/// A word of so many letters fits into this width, with its ground.
+/// A word of so many letters fits into this width, with its plate.
 pub(crate) fn fits(len: usize, width: u64) -> bool
     ensures { result ≡ fits len width }
 {
@@ -125,7 +125,7 @@ fn spot_of(layout: &Layout, row: Row, x: &Stretch) -> Spot
     ensures { result ≡ spot_of layout.now row x.now }
 {
     Spot {
-        ground: layout.inside(x.from),
+        plate: layout.inside(x.from),
         words: layout.beside(x.from),
         top: layout.top(row) + 2,
         base: layout.base(row),
@@ -133,42 +133,42 @@ fn spot_of(layout: &Layout, row: Row, x: &Stretch) -> Spot
     }
 }
 
-// The plain ground of so many letters.
+// The plain plate of so many letters.
 fn put_ground(class: &[u8], spot: Spot, len: u64, out: &mut Vec<u8>) -> Result<(), AllocError>
     requires { 8 * len + 6 < 2 ^ 64 }
     ensures { OnOk result (out.new.items ≡ out.old.items ++ letter_ground class.now spot len) }
 {
-    put_cover(class, spot.ground, spot.top, 8 * len + 6, 14, out)
+    put_cover(class, spot.plate, spot.top, 8 * len + 6, 14, out)
 }
 
 #[tactic(auto, unfolding(crate::specs::Bars::word_on))]
 fn put_word_on(
-    ground: &[u8],
+    plate: &[u8],
     class: &[u8],
     spot: Spot,
     word: &[u8],
     out: &mut Vec<u8>,
 ) -> Result<(), AllocError>
     requires { 8 * length word.now + 6 < 2 ^ 64 }
-    ensures { OnOk result (out.new.items ≡ out.old.items ++ word_on ground.now class.now spot word.now) }
+    ensures { OnOk result (out.new.items ≡ out.old.items ++ word_on plate.now class.now spot word.now) }
 {
-    put_ground(ground, spot, word.len() as u64, out)?;
+    put_ground(plate, spot, word.len() as u64, out)?;
     put_word_label(class, spot.words, spot.base, word, out)
 }
 
 // A word on a bar, where it fits.
 #[tactic(auto, using(crate::proofs::RoomLemmas::fits_room))]
 fn put_word(
-    ground: &[u8],
+    plate: &[u8],
     class: &[u8],
     spot: Spot,
     word: &[u8],
     out: &mut Vec<u8>,
 ) -> Result<(), AllocError>
-    ensures { OnOk result (out.new.items ≡ out.old.items ++ word_text ground.now class.now spot word.now) }
+    ensures { OnOk result (out.new.items ≡ out.old.items ++ word_text plate.now class.now spot word.now) }
 {
     if fits(word.len(), spot.width) {
-        put_word_on(ground, class, spot, word, out)
+        put_word_on(plate, class, spot, word, out)
     } else {
         Ok(())
     }

@@ -6,6 +6,7 @@
 
 mod arrows;
 mod bars;
+mod circles;
 mod colours;
 mod head;
 mod held;

@@ -5,10 +5,11 @@ ghost use Rattle.std.specs.List.{range_with_len};
 ghost use Rattle.sd_machine.specs.LockGraph.{cycles_of};
 ghost use Rattle.sd_timeline.specs.Labels.{mark_text};
 ghost use Rattle.sd_layout.specs.Layouts.{row_of};
-ghost use Rattle.sd_timeline.specs.Picture.{arrows_text, bound_of, frame_text, ground_text, laid_out, marks_text, own_row, row_text, rows_text, shown_holds, thread_text, timeline_text};
+ghost use Rattle.sd_timeline.specs.Picture.{all_marks, arrows_text, bound_of, frame_text, ground_text, laid_out, marks_text, own_row, row_text, rows_text, shown_holds, thread_text, timeline_text};
 
 use crate::arrows::{put_hand_overs, put_wakeups};
 use crate::bars::{put_bars, put_run_bars};
+use crate::circles::put_rings;
 use crate::head::{put_bound_label, put_head, put_thread_head};
 use crate::held::put_bands;
 use crate::labels::{put_gaps, put_levels, put_marks};
@@ -121,21 +122,40 @@ fn put_cycles(layout: &Layout, found: &[Vec<usize>], out: &mut Vec<u8>) -> Resul
     Ok(())
 }
 
-// The marks of threads that block each other in the last state, whose cycles these are, where all that happens up to the end is drawn.
-fn put_deadlocks(
+// The marks of threads in these blocking cycles, and of those in other circles of wants.
+#[tactic(auto, unfolding(crate::specs::Picture::all_marks))]
+fn put_all_marks(
+    alloc: Global,
+    work: &Work,
+    layout: &Layout,
+    drawn: &Drawn,
+    cycles: &[Vec<usize>],
+    out: &mut Vec<u8>,
+) -> Result<(), AllocError>
+    ensures { OnOk result (out.new.items ≡ out.old.items ++ all_marks work.now layout.now drawn.now (map (λ v. v.items) cycles.now)) }
+{
+    put_cycles(layout, cycles, out)?;
+    put_rings(alloc, work, layout, drawn, cycles, out)
+}
+
+// The marks of the last state, whose blocking cycles these are, where all that happens up to the end is drawn.
+fn put_end_marks(
+    alloc: Global,
+    work: &Work,
     layout: &Layout,
     history: &History,
+    drawn: &Drawn,
     s: &State,
     cycles: &[Vec<usize>],
     out: &mut Vec<u8>,
 ) -> Result<(), AllocError>
     requires { map (λ v. v.items) cycles.now ≡ cycles_of s.now }
-    ensures { OnOk result (out.new.items ≡ out.old.items ++ marks_text layout.now history.now s.now) }
+    ensures { OnOk result (out.new.items ≡ out.old.items ++ marks_text work.now layout.now history.now drawn.now s.now) }
 {
     if layout.to < last_act(&history.happenings) {
         return Ok(());
     }
-    put_cycles(layout, cycles, out)
+    put_all_marks(alloc, work, layout, drawn, cycles, out)
 }
 
 // The arrows.
@@ -200,7 +220,7 @@ fn put_rows(
     put_threads(alloc, work, layout, history, &drawn.holds, s, out)?;
     put_moments(work, layout, &drawn.pieces, out)?;
     put_notes(work, layout, &history.history.happenings, out)?;
-    put_deadlocks(layout, &history.history, s, cycles, out)?;
+    put_end_marks(alloc, work, layout, &history.history, drawn, s, cycles, out)?;
     put_gaps(layout, &layout.folds, out)
 }
 
