@@ -1,15 +1,16 @@
 #!/usr/bin/env python3
-"""Compares the responses that the built programs report with response-time analysis, or with tables.
+"""Compares what the built programs report of task sets with response-time analysis, or with tables.
 
-Each set goes through `disptask`, `dispsim run` and `dispview report --csv`. Random sets have tasks of class rt
-with levels of their own and jobs that only run, on one processor or bound on several. The greatest response of
-each task has to be that of response-time analysis over its level's busy period (Lehoczky).
+Each set goes through `disptask`, `dispsim run` and `dispview report --csv`, which reads the set itself. Random sets
+have tasks of class rt with levels of their own and jobs that only run, on one processor or bound on several. The
+greatest response of each task has to be that of response-time analysis over its level's busy period (Lehoczky),
+and it misses deadlines exactly if that is greater than its period.
 
     tests/tasks/responses.py DISPTASK DISPSIM DISPVIEW [--sets N] [--seed N]
     tests/tasks/responses.py DISPTASK DISPSIM DISPVIEW --tables FOLDER
 
-A table is NAME.table beside NAME.set: `task released complete unfinished least mean greatest ..`, as the
-report's numbers have to be.
+A table is NAME.table beside NAME.set, with a row for each task: `task released complete unfinished least mean greatest
+misses first`. Each number has to be that of the report, and no other task may be reported.
 """
 
 import argparse
@@ -17,6 +18,7 @@ import random
 import subprocess
 import sys
 from fractions import Fraction
+from itertools import zip_longest
 from math import ceil
 from pathlib import Path
 from typing import NamedTuple
@@ -30,11 +32,8 @@ class Task(NamedTuple):
     work: int
 
 
-class Numbers(NamedTuple):
-    complete: int
-    unfinished: int
-    total: int
-    greatest: int
+# What the report says of a task: for each measure its number and its ticks, empty where it has none.
+Measures = dict[str, tuple[str, str]]
 
 
 def call(arguments: list[str], given: bytes) -> bytes:
@@ -42,24 +41,27 @@ def call(arguments: list[str], given: bytes) -> bytes:
     return subprocess.run(arguments, input=given, capture_output=True, timeout=60, check=True).stdout
 
 
-def reported(programs: list[str], task_set: bytes) -> dict[str, Numbers]:
+def reported(programs: list[str], task_set: bytes) -> dict[str, Measures]:
     """Returns what the report says of each task of a set, by name."""
     disptask, dispsim, dispview = programs
-    workload = call([disptask], task_set)
-    journal = call([dispsim, "run"], workload)
-    sheet = call([dispview, "report", "--csv"], workload + b"journal\n" + journal).decode()
-    rows = [line.split(",") for line in sheet.splitlines() if line.startswith("task,")]
-    found: dict[str, Numbers] = {}
-    for _, name, measure, semaphore, number, ticks, _, longest, *_ in rows:
-        if semaphore != name:
-            continue
-        was = found.get(name, Numbers(0, 0, 0, 0))
-        if measure == "response":
-            was = was._replace(complete=int(number), total=int(ticks), greatest=int(longest))
-        elif measure == "unfinished":
-            was = was._replace(unfinished=int(number))
-        found[name] = was
+    journal = call([dispsim, "run"], call([disptask], task_set))
+    whole = task_set if task_set.endswith(b"\n") else task_set + b"\n"
+    sheet = call([dispview, "report", "--csv"], whole + b"journal\n" + journal).decode()
+    found: dict[str, Measures] = {}
+    for line in sheet.splitlines():
+        kind, name, measure, _, number, ticks, *_ = line.split(",")
+        if kind == "set task":
+            found.setdefault(name, {})[measure] = (number, ticks)
     return found
+
+
+def columns(name: str, measures: Measures) -> list[str]:
+    """Returns the row of a table that the measures of a task make."""
+    counts = [measures[word][0] for word in ("released", "complete", "unfinished")]
+    jobs, ticks = measures["mean"]
+    mean = f"{ticks}/{jobs}" if jobs else "-"
+    least, greatest, first = (measures[word][1] or "-" for word in ("least", "greatest", "first miss"))
+    return [name, *counts, least, mean, greatest, measures["misses"][0], first]
 
 
 def random_tasks(source: random.Random, cpus: int) -> list[Task]:
@@ -129,23 +131,13 @@ def differ_randomly(programs: list[str], sets: int, seed: int) -> tuple[int, int
         for task in tasks:
             compared += 1
             wanted = worst_response(task, tasks)
-            if found[task.name].greatest != wanted:
+            greatest = int(found[task.name]["greatest"][1])
+            has_missed = found[task.name]["misses"][0] != "0"
+            if greatest != wanted or has_missed != (task.period < wanted):
                 failed += 1
-                print(f"{task.name}: {found[task.name].greatest} and not {wanted} in")
+                print(f"{task.name}: {greatest} and not {wanted}, misses {has_missed}, in")
                 print(text.decode())
     return compared, failed
-
-
-def is_row(numbers: Numbers, row: list[str]) -> bool:
-    """Whether a row of a table says the same, as far as the report goes."""
-    mean = Fraction(numbers.total, numbers.complete) if numbers.complete else None
-    return row[1:4] + row[5:7] == [
-        str(numbers.complete + numbers.unfinished),
-        str(numbers.complete),
-        str(numbers.unfinished),
-        f"{mean.numerator}/{mean.denominator}" if mean is not None else "-",
-        str(numbers.greatest) if numbers.complete else "-",
-    ]
 
 
 def differ_from_tables(programs: list[str], folder: Path) -> tuple[int, int]:
@@ -154,11 +146,12 @@ def differ_from_tables(programs: list[str], folder: Path) -> tuple[int, int]:
     for table in sorted(folder.glob("*.table")):
         rows = [line.split() for line in table.read_text().splitlines()[1:]]
         found = reported(programs, table.with_suffix(".set").read_bytes())
-        for row in rows:
+        told = [columns(name, measures) for name, measures in found.items()]
+        for row, wanted in zip_longest(told, rows, fillvalue=["nothing"]):
             compared += 1
-            if not is_row(found.get(row[0], Numbers(0, 0, 0, 0)), row):
+            if row != wanted:
                 failed += 1
-                print(f"{table.name}: {row[0]} differs")
+                print(f"{table.name}: reported {' '.join(row)} and not {' '.join(wanted)}")
     return compared, failed
 
 

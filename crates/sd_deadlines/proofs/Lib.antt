@@ -1,2 +1,4 @@
 pub mod DelayerLemmas
+pub mod DueLemmas
+pub mod MeanLemmas
 pub mod TaskTableLemmas

@@ -1,2 +1,4 @@
 pub mod JobLines
+pub mod Means
+pub mod Numbering
 pub mod TaskTable

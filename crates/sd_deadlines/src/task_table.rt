@@ -3,7 +3,7 @@
 //!
 //! Source: response-time analysis (responses, deadlines, blocking); the table is this project's own.
 
-ghost use Rattle.std.specs.Prelude.{◌≡◌, IfOk, ◌+◌, count_by};
+ghost use Rattle.std.specs.Prelude.{◌≡◌, IfOk, ◌+◌, count_by, nat_le, nat_lt};
 ghost use Rattle.sd_deadlines.specs.TaskTable.{blocked_in, blocked_ticks, first_miss, is_blocked, is_late, jobs_by, least, lesser, line_from, line_of, misses, release_in, set_jobs, task_line, ticks_between, worst_blocked};
 
 use sd_state::State;
@@ -20,7 +20,7 @@ use std::alloc::{AllocError, Global};
 pub struct Task {
     pub thread: usize,
     pub sema: ChanId,
-    pub deadline: Option<u32>,
+    pub deadline: Option<u64>,
 }
 
 /// What the table says of a task: how many jobs were released; the responses of those that are complete; the least of these; how many
@@ -61,38 +61,51 @@ fn jobs_by(
     }
 }
 
-// A job that is due at this tick, in a run of so many ticks.
-fn is_late(due: u64, end: u32, completion: Option<Point>) -> bool
-    ensures { result ≡ is_late due end completion }
+// The tick is behind one that is so many ticks behind the release.
+#[tactic(auto, using(crate::proofs::DueLemmas::behind_due))]
+fn is_behind(release: u32, ticks: u64, tick: u32) -> bool
+    ensures { result ≡ nat_lt (release + ticks) tick }
+{
+    ticks < u64::from(tick.saturating_sub(release))
+}
+
+// The run has come to the tick that is so many ticks behind the release.
+#[tactic(auto, using(crate::proofs::DueLemmas::come_to_due))]
+fn is_reached(release: u32, ticks: u64, end: u32) -> bool
+    ensures { result ≡ nat_le (release + ticks) end }
+{
+    release <= end && ticks <= u64::from(end.saturating_sub(release))
+}
+
+// A job that is due so many ticks behind its release, in a run that ends at this tick.
+fn is_late(release: u32, ticks: u64, end: u32, completion: Option<Point>) -> bool
+    ensures { result ≡ is_late (release + ticks) end completion }
 {
     match completion {
-        Some(point) => due < u64::from(point.tick),
-        None => due <= u64::from(end),
+        Some(point) => is_behind(release, ticks, point.tick),
+        None => is_reached(release, ticks, end),
     }
 }
 
 /// The job misses its deadline, so many ticks behind its release, in a run of so many ticks.
-pub fn misses(deadline: Option<u32>, end: u32, x: &Job) -> bool
+pub fn misses(deadline: Option<u64>, end: u32, x: &Job) -> bool
     ensures { result ≡ misses deadline end x.now }
 {
     match deadline {
-        Some(ticks) => {
-            let due = u64::from(x.release.tick) + u64::from(ticks);
-            is_late(due, end, x.completion)
-        }
+        Some(ticks) => is_late(x.release.tick, ticks, end, x.completion),
         None => false,
     }
 }
 
 // How many miss their deadline.
-fn all_misses(deadline: Option<u32>, end: u32, jobs: &[Job]) -> usize
+fn all_misses(deadline: Option<u64>, end: u32, jobs: &[Job]) -> usize
     ensures { result ≡ count_by (misses deadline end) jobs.now }
 {
     jobs.iter().filter(|x| misses(deadline, end, x)).count()
 }
 
 // The tick of release of the first of them.
-fn first_miss(deadline: Option<u32>, end: u32, jobs: &[Job]) -> Option<u32>
+fn first_miss(deadline: Option<u64>, end: u32, jobs: &[Job]) -> Option<u32>
     ensures { result ≡ first_miss deadline end jobs.now }
 {
     for x in jobs {
@@ -112,9 +125,9 @@ fn lesser(least: Option<u32>, ticks: u32) -> Option<u32>
     }
 }
 
-// The ticks of the shortest.
+/// The ticks of the shortest.
 #[tactic(auto, unfolding(crate::specs::TaskTable::least))]
-fn least(spans: &[Span]) -> Option<u32>
+pub fn least(spans: &[Span]) -> Option<u32>
     ensures { result ≡ least spans.now }
 {
     let mut best = None;

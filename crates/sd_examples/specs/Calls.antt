@@ -29,6 +29,10 @@ Runs workload text status = Writes (KeepsPromises (codes "run" ∷ [])) workload
 abbrev pub Views : List ℕ → List ℕ → List ℕ → ℕ → Type 0
 Views word certificate text status = Writes (viewer.ShowsAsPromised (word ∷ [])) certificate text status
 
+-- the same with two arguments
+abbrev pub ViewsWith : List ℕ → List ℕ → List ℕ → List ℕ → ℕ → Type 0
+ViewsWith word option certificate text status = Writes (viewer.ShowsAsPromised (word ∷ option ∷ [])) certificate text status
+
 -- `dispfind`, with these arguments and on this workload, wrote this text and returned this status
 abbrev pub Finds : List (List ℕ) → List ℕ → List ℕ → ℕ → Type 0
 Finds arguments workload text status = Writes (finder.SearchesAsPromised (asked arguments)) workload text status

@@ -1,10 +1,10 @@
-//! What is said of stored texts of an example: the answer of a search, the expansion of a task set, and a report.
+//! What is said of stored texts of an example: the answer of a search, the expansion of a task set, a report, and the jobs.
 
 ghost use Rattle.std.specs.Prelude.{IfOk, codes, map, string_bytes};
 ghost use Rattle.sd_examples.specs.Answers.{SaysOf, SaysOfCall};
-ghost use Rattle.sd_examples.specs.Calls.{Expands, Finds, Views, certificate_of};
+ghost use Rattle.sd_examples.specs.Calls.{Expands, Finds, Views, ViewsWith, certificate_of};
 
-use crate::calls::{Finished, call_view, certificate, expand, search};
+use crate::calls::{Finished, call_view, call_view_with, certificate, expand, search};
 use std::alloc::{AllocError, Global};
 use std::fmt;
 
@@ -70,5 +70,19 @@ pub fn judge_report(
 {
     let certificate = certificate(alloc, source, journal)?;
     let call = call_view(alloc, "report", &certificate)?;
+    Ok(compare(&call, stored))
+}
+
+/// Reports the jobs of this run, and compares.
+pub fn judge_jobs(
+    alloc: Global,
+    source: &[u8],
+    journal: &[u8],
+    stored: &[u8],
+) -> Result<Compared, AllocError>
+    ensures { IfOk result (SaysOf (ViewsWith (codes "report") (codes "--jobs") (certificate_of source.now journal.now)) stored.now) }
+{
+    let certificate = certificate(alloc, source, journal)?;
+    let call = call_view_with(alloc, "report", "--jobs", &certificate)?;
     Ok(compare(&call, stored))
 }

@@ -1,7 +1,7 @@
 //! Calls of the four programs over inputs and outputs in memory.
 
 ghost use Rattle.std.specs.Prelude.{◌≡◌, [], ◌∷◌, IfOk, map, string_bytes};
-ghost use Rattle.sd_examples.specs.Calls.{certificate_of, Expands, Finds, Runs, Views};
+ghost use Rattle.sd_examples.specs.Calls.{certificate_of, Expands, Finds, Runs, Views, ViewsWith};
 ghost use Rattle.sd_examples.specs.Outcomes.{IsDrawing, IsRun};
 
 use sd_find::{Progress, find};
@@ -65,6 +65,32 @@ pub fn call_view(alloc: Global, word: &str, certificate: &[u8]) -> Result<Finish
     ensures { IfOk result (λ call. Views word.now certificate.now call.out.held call.status) }
 {
     let arguments = one_argument(alloc, word)?;
+    let mut input = input_of(alloc, certificate)?;
+    let mut out = output(alloc)?;
+    let mut err = output(alloc)?;
+    let status = view(alloc, &arguments, &mut input, &mut out, &mut err);
+    Ok(Finished { status, out })
+}
+
+fn two_arguments(alloc: Global, word: &str, option: &str) -> Result<Vec<String>, AllocError>
+    ensures { IfOk result (λ v. map string_bytes v.items ≡ word.now ∷ option.now ∷ []) }
+{
+    let mut arguments = Vec::new(alloc);
+    arguments.push(String::from_str(alloc, word)?)?;
+    arguments.push(String::from_str(alloc, option)?)?;
+    Ok(arguments)
+}
+
+/// The same, with two arguments.
+pub fn call_view_with(
+    alloc: Global,
+    word: &str,
+    option: &str,
+    certificate: &[u8],
+) -> Result<Finished, AllocError>
+    ensures { IfOk result (λ call. ViewsWith word.now option.now certificate.now call.out.held call.status) }
+{
+    let arguments = two_arguments(alloc, word, option)?;
     let mut input = input_of(alloc, certificate)?;
     let mut out = output(alloc)?;
     let mut err = output(alloc)?;

@@ -1,8 +1,8 @@
 //! The files of the examples: NAME.workload, its picture NAME.svg, NAME.json where the trace is stored too, NAME.journal where
 //! the run is not that of `dispsim run`, NAME.find where an answer of `dispfind` is stored: its first line has the arguments;
-//! NAME.set where NAME.workload is the expansion of this task set, and NAME.report where a report is stored.
+//! NAME.set where NAME.workload is the expansion of this task set, NAME.report where a report is stored, and NAME.jobs where the jobs are.
 
-use crate::answers::{Compared, judge_expansion, judge_report, judge_search};
+use crate::answers::{Compared, judge_expansion, judge_jobs, judge_report, judge_search};
 use crate::calls::{Outcome, run};
 use crate::verdicts::{Verdict, judge};
 use anyhow::{Context, Result};
@@ -126,8 +126,23 @@ fn journal_of<R: Files + AllocGlobal>(
     }
 }
 
-/// Reads the stored report of an example and judges it; None where none is stored, or where the example does not run. The report
-/// of a task set is that of the set, and not of its expansion.
+/// The text of which the run of an example is reported, and its journal; None where it does not run. The report of a task set is that
+/// of the set, and not of its expansion.
+fn reported<R: Files + AllocGlobal>(
+    rt: &R,
+    folder: &str,
+    name: &str,
+) -> Result<Option<(Vec<u8>, Vec<u8>)>> {
+    let alloc = rt.alloc();
+    let workload = read_file(rt, format!(in alloc; "{folder}/{name}.workload")?.as_str())?;
+    let Some(journal) = journal_of(rt, folder, name, &workload)? else {
+        return Ok(None);
+    };
+    let set = read_if_there(rt, format!(in alloc; "{folder}/{name}.set")?.as_str())?;
+    Ok(Some((set.unwrap_or(workload), journal)))
+}
+
+/// Reads the stored report of an example and judges it; None where none is stored, or where the example does not run.
 pub fn judge_stored_report<R: Files + AllocGlobal>(
     rt: &R,
     folder: &str,
@@ -138,12 +153,27 @@ pub fn judge_stored_report<R: Files + AllocGlobal>(
     else {
         return Ok(None);
     };
-    let workload = read_file(rt, format!(in alloc; "{folder}/{name}.workload")?.as_str())?;
-    let Some(journal) = journal_of(rt, folder, name, &workload)? else {
+    let Some((source, journal)) = reported(rt, folder, name)? else {
         return Ok(None);
     };
-    let set = read_if_there(rt, format!(in alloc; "{folder}/{name}.set")?.as_str())?;
-    let source = set.unwrap_or(workload);
     let compared = judge_report(alloc, &source, &journal, &stored)?;
+    Ok(Some(compared))
+}
+
+/// The same of the jobs.
+pub fn judge_stored_jobs<R: Files + AllocGlobal>(
+    rt: &R,
+    folder: &str,
+    name: &str,
+) -> Result<Option<Compared>> {
+    let alloc = rt.alloc();
+    let Some(stored) = read_if_there(rt, format!(in alloc; "{folder}/{name}.jobs")?.as_str())?
+    else {
+        return Ok(None);
+    };
+    let Some((source, journal)) = reported(rt, folder, name)? else {
+        return Ok(None);
+    };
+    let compared = judge_jobs(alloc, &source, &journal, &stored)?;
     Ok(Some(compared))
 }

@@ -1,5 +1,5 @@
 //! Looks through the examples: the picture of each is the one that the program makes of its workload, its trace is JSON, and the
-//! answers of searches, the expansions of task sets and the reports that are stored are those that the programs write.
+//! answers of searches, the expansions of task sets, the reports and the jobs that are stored are those that the programs write.
 #![tactic(auto)]
 
 mod answers;
@@ -10,7 +10,10 @@ mod verdicts;
 
 use answers::Compared;
 use anyhow::{Result, ensure};
-use files::{folder_of, judge_answer, judge_example, judge_set, judge_stored_report, names_of};
+use files::{
+    folder_of, judge_answer, judge_example, judge_set, judge_stored_jobs, judge_stored_report,
+    names_of,
+};
 use std::rt::Files;
 use verdicts::Verdict;
 
@@ -57,6 +60,7 @@ fn main(rt: HostRuntime) -> Result<()> {
         agree &= report_stored(&rt, name, "answer", judge_answer(&rt, &folder, name))?;
         agree &= report_stored(&rt, name, "expansion", judge_set(&rt, &folder, name))?;
         agree &= report_stored(&rt, name, "report", judge_stored_report(&rt, &folder, name))?;
+        agree &= report_stored(&rt, name, "jobs", judge_stored_jobs(&rt, &folder, name))?;
     }
     let count = names.len();
     println!(rt; "{count} examples")?;

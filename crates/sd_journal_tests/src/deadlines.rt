@@ -5,12 +5,15 @@
 use crate::given::{Judged, in_place, is_so, judge, state};
 use crate::shown::{begun, entry, take_in};
 use sd_deadlines::{
-    Delay, Task, TaskLine, blocks, delayers, preemptions, set_jobs, start, task_line,
+    Delay, Task, TaskLine, blocks, delayers, found_tasks, mean_of, numbered_tasks, preemptions,
+    set_jobs, start, task_line,
 };
+use sd_report::{jobs_report, set_report, set_sheet};
 use sd_state::{Place, State};
-use sd_statistics::{Job, Point, Release, told_entries};
+use sd_statistics::{Job, Point, Release, Summary, told_entries};
 use sd_stretches::{ByThread, Doing, Happening, History};
-use sd_types::{ChanId, CpuId, End, Event, LockId, ThreadId, Work};
+use sd_tasks::SetTask;
+use sd_types::{ChanId, CpuId, End, Event, LockId, Name, ThreadId, Work};
 use std::alloc::{AllocError, Global};
 
 pub(crate) const WORKLOAD: &[u8] =
@@ -31,6 +34,35 @@ const TASK: Task = Task {
     sema: S,
     deadline: Some(3),
 };
+
+/// What the report of a set says of the task, behind all else.
+const TABLE: &[u8] = b"
+tasks of the set
+task               deadline  released  complete  unfinished   least        mean  greatest  misses   first  blocked
+a                         3         1         1           0       4         4/1         4       1       0        2
+
+responses of a, a # for each job
+    ticks    jobs
+        4       1  #
+";
+
+/// The same for a spreadsheet.
+const ROWS: &[u8] = b"set task,a,deadline,s,,3,,,,,
+set task,a,released,s,1,,,,,,
+set task,a,complete,s,1,,,,,,
+set task,a,unfinished,s,0,,,,,,
+set task,a,least,s,,4,,,,,
+set task,a,mean,s,1,4,,,,,
+set task,a,greatest,s,,4,,,,,
+set task,a,misses,s,1,,,,,,
+set task,a,first miss,s,,0,,,,,
+set task,a,blocked,s,,2,,,,,
+";
+
+/// The jobs of the task.
+const JOBS: &[u8] = b"task               release    start  completion  response  deadline  missed  preempted by             blocked by
+a                        0        2           4         4         3     yes  -                        -
+";
 
 /// Each event of the run, with the count of ticks and what the thread does after it.
 fn made(i: u8) -> (Event, u32, Doing) {
@@ -85,6 +117,76 @@ fn are_jobs(
     Ok(is_started(&jobs, &told))
 }
 
+/// The report ends with the table.
+fn is_table(
+    alloc: Global,
+    work: &Work,
+    history: &ByThread,
+    end: &State,
+) -> Result<bool, AllocError> {
+    let text = set_report(alloc, work, history, end, &[TASK])?;
+    Ok(text.ends_with(TABLE))
+}
+
+fn are_rows(
+    alloc: Global,
+    work: &Work,
+    history: &ByThread,
+    end: &State,
+) -> Result<bool, AllocError> {
+    let text = set_sheet(alloc, work, history, end, &[TASK])?;
+    Ok(text.ends_with(ROWS))
+}
+
+fn is_job_table(
+    alloc: Global,
+    work: &Work,
+    history: &ByThread,
+    end: &State,
+) -> Result<bool, AllocError> {
+    let text = jobs_report(alloc, work, history, end, &[TASK])?;
+    Ok(text.as_slice() == JOBS)
+}
+
+fn wrong_text(
+    alloc: Global,
+    work: &Work,
+    history: &ByThread,
+    end: &State,
+) -> Result<Option<&'static str>, AllocError> {
+    if !is_table(alloc, work, history, end)? {
+        return Ok(Some("the table"));
+    }
+    if !are_rows(alloc, work, history, end)? {
+        return Ok(Some("the rows"));
+    }
+    if !is_job_table(alloc, work, history, end)? {
+        return Ok(Some("the jobs"));
+    }
+    Ok(None)
+}
+
+fn is_first(tasks: &[Task], sema: ChanId, deadline: Option<u64>) -> bool {
+    match tasks.first() {
+        Some(x) => tasks.len() == 1 && x.thread == 0 && x.sema == sema && x.deadline == deadline,
+        None => false,
+    }
+}
+
+/// Without a set the task of the workload is thread `a` by semaphore `s`.
+fn is_found(alloc: Global, work: &Work) -> Result<bool, AllocError> {
+    let tasks = found_tasks(alloc, work)?;
+    Ok(is_first(&tasks, S, None))
+}
+
+/// A task of a set has the thread of its name, and the semaphore of its name, which this workload lacks.
+fn is_numbered(alloc: Global, work: &Work) -> Result<bool, AllocError> {
+    let name = Name::from_word(b"a");
+    let set = Vec::from_array(alloc, [SetTask { name, deadline: 3 }])?;
+    let tasks = numbered_tasks(alloc, work, &set)?;
+    Ok(is_first(&tasks, ChanId(1), Some(3)))
+}
+
 fn wrong_of(
     alloc: Global,
     work: &Work,
@@ -97,7 +199,7 @@ fn wrong_of(
     if !are_jobs(alloc, work, history, end)? {
         return Ok(Some("the job"));
     }
-    Ok(None)
+    wrong_text(alloc, work, history, end)
 }
 
 fn ending(alloc: Global) -> Result<State, AllocError> {
@@ -120,7 +222,31 @@ pub(crate) fn wrong_deadlines(
     alloc: Global,
     work: &Work,
 ) -> Result<Option<&'static str>, AllocError> {
+    if !is_found(alloc, work)? {
+        return Ok(Some("the tasks of the workload"));
+    }
+    if !is_numbered(alloc, work)? {
+        return Ok(Some("the tasks of a set"));
+    }
     wrong_behind_nine(alloc, work, begun(alloc)?)
+}
+
+/// Six responses of 127 ticks together: 127 is a prime, so the fraction stands. Of 56 ticks for 14 jobs the mean is 4.
+fn are_means() -> bool {
+    let odd = mean_of(Summary {
+        number: 6,
+        ticks: 127,
+        longest: None,
+    });
+    let even = mean_of(Summary {
+        number: 14,
+        ticks: 56,
+        longest: None,
+    });
+    match (odd, even) {
+        (Some(x), Some(y)) => x.ticks == 127 && x.jobs == 6 && y.ticks == 4 && y.jobs == 1,
+        _ => false,
+    }
 }
 
 /// An entry of this processor at this tick, about a lock of this owner.
@@ -214,4 +340,9 @@ fn a_thread_that_is_blocked(rt: HostRuntime) {
 #[test]
 fn who_delays_a_job(rt: HostRuntime) {
     is_so(&rt, are_both_delayers(rt.alloc()));
+}
+
+#[test]
+fn means_of_responses(rt: HostRuntime) {
+    is_so(&rt, Ok(are_means()));
 }

@@ -56,7 +56,7 @@ fn is_drawn_of(alloc: Global, work: &Work, journal: &[u8], drawing: &Drawing, te
     if journal.len() >= 1000 {
         return false;
     }
-    match draw(alloc, work, journal, drawing) {
+    match draw(alloc, work, &None, journal, drawing) {
         Ok(found) => has(&found, text),
         Err(_) => false,
     }

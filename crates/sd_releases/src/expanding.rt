@@ -3,13 +3,15 @@
 ghost use Rattle.std.specs.Prelude.{◌≡◌, ◌<◌, ◌^◌, ◌-◌, length, IfOk, IfErr, option_map, slice_get};
 ghost use Rattle.sd_workload.specs.Texts.{verdict_of};
 ghost use Rattle.sd_tasks.specs.Kept.{reading_kept};
+ghost use Rattle.sd_tasks.specs.SetTasks.{declared_tasks, set_tasks};
+ghost use Rattle.sd_tasks.specs.SetTasksKept.{tasks_kept};
 ghost use Rattle.sd_tasks.specs.Written.{text_of};
 ghost use Rattle.sd_tasks.specs.WrittenKept.{lines_kept};
 ghost use Rattle.sd_releases.specs.declared.expanding.SetFault.TheVariants.{Memory};
 ghost use Rattle.sd_releases.specs.Verdicts.{IsExpansion, IsSetFault, end_verdict, is_own, is_less, judged_fault, own_verdict, set_verdict};
 
 use crate::tails::put_tail;
-use sd_tasks::{Reader, SetReading, WrittenLine, lines_text, read_set};
+use sd_tasks::{Reader, SetReading, SetTask, WrittenLine, lines_text, read_set, set_tasks};
 use sd_types::MOST_WORKLOAD_BYTES;
 use sd_workload::{WorkCause, WorkFault, read_work};
 use std::alloc::{AllocError, Global};
@@ -19,11 +21,13 @@ use thiserror::Error;
 const MOST_JUDGED_BYTES: usize = 0x7fff_ffff;
 
 /// The workload to which a task set expands: its lines, each with the line of the set from which it comes, and its text. What
-/// stands behind the lines of the set comes from the line after the last, but for scripts that the set does not give.
+/// stands behind the lines of the set comes from the line after the last, but for scripts that the set does not give. The tasks of
+/// the set stand in the order of declaration.
 #[derive(Drop)]
 pub struct Expansion {
     pub lines: Vec<WrittenLine>,
     pub text: Vec<u8>,
+    pub tasks: Vec<SetTask>,
 }
 
 /// Why a text is not read as a task set.
@@ -71,10 +75,16 @@ fn judged_fault(alloc: Global, lines: &[WrittenLine]) -> Result<Option<(u32, Wor
     }
 }
 
-/// The expansion to these lines, where the end of the set has this number.
-fn ended(alloc: Global, lines: Vec<WrittenLine>, number: u32) -> Result<Expansion, SetFault>
+/// The expansion to these lines, where the end of the set has this number, and the set these tasks.
+fn ended(
+    alloc: Global,
+    lines: Vec<WrittenLine>,
+    tasks: Vec<SetTask>,
+    number: u32,
+) -> Result<Expansion, SetFault>
     ensures ok { IfOk result (IsExpansion (end_verdict (lines_kept lines.items) number)) }
     ensures err { IfErr result (IsSetFault (end_verdict (lines_kept lines.items) number)) }
+    ensures tasks { IfOk result (λ e. tasks_kept e.tasks.items ≡ tasks_kept tasks.items) }
 {
     let text = lines_text(alloc, &lines)?;
     if MOST_WORKLOAD_BYTES < text.len() {
@@ -84,7 +94,7 @@ fn ended(alloc: Global, lines: Vec<WrittenLine>, number: u32) -> Result<Expansio
         });
     }
     match read_work(alloc, &text) {
-        Ok(_work) => Ok(Expansion { lines, text }),
+        Ok(_work) => Ok(Expansion { lines, text, tasks }),
         Err(WorkFault::At { line: _, cause: _ }) => Err(SetFault::At {
             line: number,
             cause: WorkCause::Limits,
@@ -97,6 +107,7 @@ fn ended(alloc: Global, lines: Vec<WrittenLine>, number: u32) -> Result<Expansio
 fn own_expansion(alloc: Global, reading: SetReading) -> Result<Expansion, SetFault>
     ensures ok { IfOk result (IsExpansion (own_verdict (reading_kept reading) reading.cause)) }
     ensures err { IfErr result (IsSetFault (own_verdict (reading_kept reading) reading.cause)) }
+    ensures tasks { IfOk result (λ e. tasks_kept e.tasks.items ≡ set_tasks (reading_kept reading).seen.above) }
 {
     let SetReading {
         seen,
@@ -116,8 +127,9 @@ fn own_expansion(alloc: Global, reading: SetReading) -> Result<Expansion, SetFau
         block: _,
         repeats: _,
     } = seen;
+    let tasks = set_tasks(alloc, &facts)?;
     put_tail(alloc, &mut written, &facts, number)?;
-    ended(alloc, written, number)
+    ended(alloc, written, tasks, number)
 }
 
 fn is_less(own: Option<WorkCause>, cause: WorkCause) -> bool
@@ -142,6 +154,7 @@ pub fn expand(alloc: Global, bytes: &[u8]) -> Result<Expansion, SetFault>
     requires { length bytes.now < 2 ^ 31 }
     ensures ok { IfOk result (IsExpansion (set_verdict bytes.now)) }
     ensures err { IfErr result (IsSetFault (set_verdict bytes.now)) }
+    ensures tasks { IfOk result (λ e. tasks_kept e.tasks.items ≡ declared_tasks bytes.now) }
 {
     let reading = read_set(alloc, bytes)?;
     if let Some((line, cause)) = judged_fault(alloc, &reading.seen.judged)? {

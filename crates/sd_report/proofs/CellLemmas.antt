@@ -2,9 +2,14 @@
 use Rattle.std.proofs.Common.{◌≡◌, ℕ, ◌+◌, ◌-◌, ◌≤◌, List, [], ◌++◌, length, take, drop, replicate, min, sym, ap, ◌∙◌, arith}
 use Rattle.std.proofs.lemmas.List.{append-nil, drop-append-le, drop-replicate, length-replicate, take-append-drop, take-replicate}
 use Rattle.sd_report.specs.Cells.{blanks, right}
+use Rattle.sd_report.specs.Histograms.{marks}
 
 pub blanks_taken : (n : ℕ) → n ≤ 32 → take n (replicate 32 32) ≡ blanks n
 blanks_taken n fits = take-replicate n 32 32 fits
+
+-- of a row of marks the first
+pub marks_taken : (n : ℕ) → take (min n 60) (replicate 60 35) ≡ marks n
+marks_taken n = take-replicate (min n 60) 60 35 (omega arith)
 
 -- no blanks are left behind the last place
 none_left : (digits : List ℕ) → digits ++ drop 32 (replicate 32 32) ≡ digits

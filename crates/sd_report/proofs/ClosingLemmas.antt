@@ -24,7 +24,7 @@ line-ends : (w : Work) (x : Row) → EndsLine (table_line w x)
 unfolding table_line
 line-ends w x = EndsLine-newline (row_words w x ++ row_cells x ++ by_text (holder w x))
 
-some-ends : (b : Bool) (text : List ℕ) → EndsLine text → EndsLine (cond b [] text)
+pub some-ends : (b : Bool) (text : List ℕ) → EndsLine text → EndsLine (cond b [] text)
 some-ends true text h = refl
 some-ends false text h = h
 
@@ -75,7 +75,7 @@ report-ends w h s =
 
 -- ---- as comma-separated rows
 
-fields-end : (fields : List (List ℕ)) → EndsLine (row_text default_writer fields)
+pub fields-end : (fields : List (List ℕ)) → EndsLine (row_text default_writer fields)
 fields-end fields =
     let body = row_body default_writer fields in
     let quotes = cond (is_blank default_writer fields) (34 ∷ 34 ∷ []) [] in

@@ -2,3 +2,5 @@ pub mod CellLemmas
 pub mod ClosingLemmas
 pub mod FieldLemmas
 pub mod PlainLemmas
+pub mod SetClosingLemmas
+pub mod SetPlainLemmas

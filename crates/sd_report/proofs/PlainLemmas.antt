@@ -32,19 +32,19 @@ blanks-text : (n : ℕ) → IsText (blanks n)
 blanks-text zero = refl
 blanks-text (suc n) = blanks-text n
 
-left-text : (width : ℕ) (text : List ℕ) → IsText text → IsText (left width text)
+pub left-text : (width : ℕ) (text : List ℕ) → IsText text → IsText (left width text)
 unfolding left
 left-text width text h = simp (list_all-append is_text_byte, h, blanks-text (width - length text))
 
-right-text : (width : ℕ) (text : List ℕ) → IsText text → IsText (right width text)
+pub right-text : (width : ℕ) (text : List ℕ) → IsText text → IsText (right width text)
 unfolding right
 right-text width text h = simp (list_all-append is_text_byte, h, blanks-text (width - length text))
 
-cell-text : (n : Option ℕ) → IsText (cell n)
+pub cell-text : (n : Option ℕ) → IsText (cell n)
 cell-text None = refl
 cell-text (Some n) = decimal-text n
 
-number-text : (width : ℕ) (n : Option ℕ) → IsText (right width (cell n))
+pub number-text : (width : ℕ) (n : Option ℕ) → IsText (right width (cell n))
 number-text width n = right-text width (cell n) (cell-text n)
 
 -- ---- words

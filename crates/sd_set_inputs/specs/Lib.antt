@@ -1,2 +1,3 @@
 pub mod Readings
 pub mod Sets
+pub mod ToldTasks

@@ -9,6 +9,7 @@ use Rattle.sd_releases.specs.declared.expanding.SetFault.TheVariants.{At, Memory
 use Rattle.sd_releases.specs.Verdicts.{SetVerdict, Expands, RefusesSet}
 use Rattle.sd_answers.specs.declared.answers.Answer.{Answer}
 use Rattle.sd_answers.specs.declared.answers.Answer.TheVariants.{Refused, OutOfMemory}
+use Rattle.sd_set_inputs.specs.declared.spelling.Spelled.{Spelled}
 use Rattle.sd_set_inputs.specs.Sets.{RefusesSetAt, SpellsSet}
 
 -- the answer where a set is refused
@@ -22,14 +23,14 @@ pub record HasExpanded (verdict : SetVerdict) (w : Work) : Type 0 where
   pub expands : verdict ≡ Expands lines
   pub accepted : Accepted (text_of lines) w
 
-abbrev pub IsExpanded : SetVerdict → Result Work Answer → Type 0
-IsExpanded verdict (Ok w) = HasExpanded verdict w
+abbrev pub IsExpanded : SetVerdict → Result Spelled Answer → Type 0
+IsExpanded verdict (Ok found) = HasExpanded verdict found.work
 IsExpanded verdict (Err (Refused line cause)) = verdict ≡ RefusesSet line cause
 IsExpanded verdict (Err OutOfMemory) = ⊤
 IsExpanded verdict (Err _) = ⊥
 
-abbrev pub IsSpelled : List ℕ → Result Work Answer → Type 0
-IsSpelled text (Ok w) = SpellsSet text w
+abbrev pub IsSpelled : List ℕ → Result Spelled Answer → Type 0
+IsSpelled text (Ok found) = SpellsSet text found.work
 IsSpelled text (Err (Refused line cause)) = RefusesSetAt text line cause
 IsSpelled text (Err OutOfMemory) = ⊤
 IsSpelled text (Err _) = ⊥

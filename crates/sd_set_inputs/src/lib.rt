@@ -5,6 +5,6 @@ mod inputs;
 mod laws;
 mod spelling;
 
-pub use inputs::{read_certificate, read_input};
+pub use inputs::{SetCertificate, read_certificate, read_input};
 pub use laws::{sets_are_sound, workloads_stand_for_themselves};
 pub use spelling::fault_answer;

@@ -52,7 +52,7 @@ fn is_take(k: u16, op: Op) -> bool
 }
 
 /// The script takes units of semaphore `k`.
-pub(crate) fn takes(k: u16, ops: &[Op]) -> bool
+pub fn takes(k: u16, ops: &[Op]) -> bool
     ensures { result ≡ takes k ops.now }
 {
     ops.iter().any(|op| is_take(k, *op))
@@ -421,7 +421,7 @@ fn is_over_in(k: u16, ops: &[Op], x: &ThreadState) -> bool
 }
 
 /// The operations of a thread.
-pub(crate) fn script_of(work: &Work, t: usize) -> &[Op]
+pub fn script_of(work: &Work, t: usize) -> &[Op]
     ensures { result.now ≡ script_of work.now t }
 {
     match work.threads.items().get(t) {

@@ -19,7 +19,7 @@ mod threads;
 
 pub use activities::Activity;
 pub use cpus::{Deed, cpu_rows};
-pub use jobs::{Job, Point, Release, told_entries};
+pub use jobs::{Job, Point, Release, script_of, takes, told_entries};
 pub use locks::lock_rows;
 pub use rows::{Figures, Measure, Row, Subject};
 pub use slice_laws::{others_keep_running, running_ticks_are_accounted, slices_follow_in_time};

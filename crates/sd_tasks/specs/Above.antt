@@ -22,6 +22,8 @@ pub record Member : Type 0 where
   pub rounds : ℕ
   -- the processor to which it is bound
   pub cpu : Option ℕ
+  -- of a task: within how many ticks of its release a job is to be complete
+  pub deadline : Option ℕ
   pub is_task : Bool
   -- whether a script or a job is given
   pub is_given : Bool

@@ -27,6 +27,7 @@ member_kept t = record {
   release = t.release;
   rounds = t.rounds;
   cpu = t.cpu;
+  deadline = t.deadline;
   is_task = t.is_task;
   is_given = t.is_given;
 }

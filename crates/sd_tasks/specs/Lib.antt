@@ -3,6 +3,8 @@ pub mod Blocks
 pub mod Forms
 pub mod Kept
 pub mod Readings
+pub mod SetTasks
+pub mod SetTasksKept
 pub mod Releases
 pub mod Steps
 pub mod Timed

@@ -51,7 +51,7 @@ stated_cause a (Some (Script name)) = opening_cause false (thread_named a name)
 
 -- a thread that is not timed
 abbrev pub plain_member : ℕ → Thread → Member
-plain_member number t = record { name = t.name; line = number; set = 0; home = 0; release = None; rounds = 1; cpu = None; is_task = false; is_given = false }
+plain_member number t = record { name = t.name; line = number; set = 0; home = 0; release = None; rounds = 1; cpu = None; deadline = None; is_task = false; is_given = false }
 
 abbrev pub with_chan : Above → Word → Above
 with_chan a name = record a { chans = a.chans ++ name ∷ []; has_kept = a.has_kept || is_kept_name name }

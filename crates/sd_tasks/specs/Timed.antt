@@ -38,6 +38,11 @@ abbrev pub release_of : Bool → TimedOptions → Option Release
 release_of true o = Some (record { first = unwrap_or o.offset 0; period = unwrap_or o.period 0; most = unwrap_or o.jobs greatest_limit })
 release_of false o = option_map start_release o.start
 
+-- of a task: within how many ticks of its release a job is to be complete; within its period, where nothing is said
+abbrev pub deadline_of : Bool → TimedOptions → Option ℕ
+deadline_of true o = Some (unwrap_or o.deadline (unwrap_or o.period 0))
+deadline_of false o = None
+
 -- how many times the script is written
 abbrev pub rounds_of : Above → Bool → Option Release → ℕ
 rounds_of a true (Some r) = release_count r (unwrap_or a.limit 0)
@@ -56,6 +61,7 @@ member_of a number is_task t = record {
   release = release_of is_task t.options;
   rounds = rounds a is_task t;
   cpu = t.options.cpu;
+  deadline = deadline_of is_task t.options;
   is_task = is_task;
   is_given = false;
 }

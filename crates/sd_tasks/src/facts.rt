@@ -29,6 +29,8 @@ pub struct SetThread {
     pub rounds: u64,
     /// The processor to which it is bound.
     pub cpu: Option<u64>,
+    /// Of a task: within how many ticks of its release a job is to be complete.
+    pub deadline: Option<u64>,
     pub is_task: bool,
     /// Whether a script or a job is given.
     pub is_given: bool,

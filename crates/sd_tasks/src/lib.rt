@@ -4,6 +4,7 @@
 
 mod blocks;
 mod closings;
+mod deadlines;
 mod facts;
 mod forms;
 mod openings;
@@ -17,6 +18,7 @@ mod written;
 
 pub use blocks::{Block, Repeat};
 pub use closings::push_end;
+pub use deadlines::{SetTask, set_tasks};
 pub use facts::{Facts, SetThread, partition};
 pub use forms::TimedOptions;
 pub use openings::put_waits;

@@ -112,6 +112,7 @@ fn declare_thread(facts: &mut Facts, number: u32, thread: ThreadLine) -> Result<
         release: None,
         rounds: 1,
         cpu: None,
+        deadline: None,
         is_task: false,
         is_given: false,
     })?;

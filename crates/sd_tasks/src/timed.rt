@@ -5,7 +5,7 @@ ghost use Rattle.sd_lines.specs.Said.{word_of};
 ghost use Rattle.sd_tasks.specs.Above.{least_cpu};
 ghost use Rattle.sd_tasks.specs.FormsKept.{timed_said};
 ghost use Rattle.sd_tasks.specs.Kept.{above_kept, member_kept};
-ghost use Rattle.sd_tasks.specs.Timed.{is_high_class, is_gated_line, release_of, rounds, rounds_of, member_of, fits_from, are_options_within, is_chan_taken, has_no_room, is_twice, is_no_cpu, is_out, is_elsewhere, is_full, timed_cause, sema_line, sema_lines, timed_lines, with_timed};
+ghost use Rattle.sd_tasks.specs.Timed.{deadline_of, is_high_class, is_gated_line, release_of, rounds, rounds_of, member_of, fits_from, are_options_within, is_chan_taken, has_no_room, is_twice, is_no_cpu, is_out, is_elsewhere, is_full, timed_cause, sema_line, sema_lines, timed_lines, with_timed};
 ghost use Rattle.sd_tasks.specs.WrittenKept.{lines_kept};
 
 use crate::facts::{
@@ -59,6 +59,17 @@ fn release_of(is_task: bool, options: TimedOptions) -> Option<Release>
     }
 }
 
+/// Within how many ticks of its release a job of a task is to be complete.
+fn deadline_of(is_task: bool, options: TimedOptions) -> Option<u64>
+    ensures { result ≡ deadline_of is_task options }
+{
+    if is_task {
+        Some(options.deadline.unwrap_or(options.period.unwrap_or(0)))
+    } else {
+        None
+    }
+}
+
 /// How many times a script is written.
 fn rounds_of(facts: &Facts, is_task: bool, release: Option<Release>) -> u64
     ensures { result ≡ rounds_of (above_kept facts.now) is_task release }
@@ -99,6 +110,7 @@ fn member_of(facts: &Facts, number: u32, is_task: bool, line: TimedLine) -> SetT
         release,
         rounds: rounds_of(facts, is_task, release),
         cpu: options.cpu,
+        deadline: deadline_of(is_task, options),
         is_task,
         is_given: false,
     }
@@ -261,7 +273,7 @@ pub(crate) fn put_timed(
 }
 
 /// A copy of a name.
-fn copy_name(name: &Name) -> Name
+pub(crate) fn copy_name(name: &Name) -> Name
     ensures { word_of result ≡ word_of name.now }
 {
     Name::from_word(name.bytes())

@@ -1,5 +1,5 @@
 -- Drawings are whole lines, and so is what is said of them: each text ends with a newline.
-use Rattle.std.proofs.Common.{ℕ, ◌-◌, min, Bool, true, false, cond, List, [], ◌∷◌, ◌++◌, length, refl, sym, subst, append_assoc}
+use Rattle.std.proofs.Common.{ℕ, ◌-◌, min, Bool, true, false, cond, List, [], ◌∷◌, ◌++◌, length, Option, Some, None, refl, sym, subst, append_assoc}
 use Rattle.std.specs.Prelude.{codes, decimal, nat_lt}
 use Rattle.std.specs.List.{flat_map}
 use Rattle.sd_types.specs.declared.events.Entry.{Entry}
@@ -24,9 +24,13 @@ use Rattle.sd_layout.specs.Rows.{layout_of}
 use Rattle.sd_trace.specs.Flows.{hand_flow, load_event, wake_flow}
 use Rattle.sd_trace.specs.Marks.{mark_text}
 use Rattle.sd_trace.specs.Tracks.{all_tracks, trace_text}
+use Rattle.sd_tasks.specs.SetTasks.{NamedTask}
+use Rattle.sd_deadlines.specs.Numbering.{found_tasks, numbered_tasks}
 use Rattle.sd_report.proofs.ClosingLemmas.{report-ends, sheet-ends}
+use Rattle.sd_report.proofs.SetClosingLemmas.{jobs-end, set_report-ends, set_sheet-ends}
 use Rattle.sd_viewer.specs.declared.drawings.Drawing.{Drawing}
-use Rattle.sd_viewer.specs.declared.drawings.Drawing.TheVariants.{Timeline, Trace, Story, Report, Sheet}
+use Rattle.sd_viewer.specs.declared.drawings.Drawing.TheVariants.{Timeline, Trace, Story, Report, Sheet, Jobs}
+use Rattle.sd_viewer.specs.Reports.{jobs_by, report_by, sheet_by}
 use Rattle.sd_viewer.specs.Drawings.{IsDrawingOf, IsDrawn, asks_past, counted, end_line, frame_of, from_to, last_tick, left_line, parts_line, picture_text, past_line, story_line, threads_line, threads_words, ticks_line, ticks_words, timeline_line}
 
 -- what ends with a fixed text and a newline
@@ -77,15 +81,28 @@ story-ends : (w : Work) (sel : Selection) (es : List Entry) → EndsLine (story 
 unfolding story
 story-ends w sel es = EndsLine-append heading (rows_from w sel (opening w) es) refl (rows-end w sel (opening w) es)
 
-drawing-ends : (d : Drawing) (w : Work) (es : List Entry) (text : List ℕ) → IsDrawingOf d w es text → EndsLine text
-drawing-ends (Timeline from to) w es text (h, is, e) = subst EndsLine (sym e) (picture-ends w h from to _)
-drawing-ends Trace w es text (h, is, e) = subst EndsLine (sym e) (trace-ends w h)
-drawing-ends (Story sel) w es text e = subst EndsLine (sym e) (story-ends w sel es)
-drawing-ends Report w es text (h, is, e) = subst EndsLine (sym e) (report-ends w h _)
-drawing-ends Sheet w es text (h, is, e) = subst EndsLine (sym e) (sheet-ends w h _)
+report_by-ends : (tasks : Option (List NamedTask)) (w : Work) (h : History) (s : State) → EndsLine (report_by tasks w h s)
+report_by-ends None w h s = report-ends w h s
+report_by-ends (Some tasks) w h s = set_report-ends w h s (numbered_tasks w tasks)
 
-pub drawn-ends : (d : Drawing) (w : Work) (journal text : List ℕ) → IsDrawn d w journal text → EndsLine text
-drawn-ends d w journal text is = drawing-ends d w is.entries text is.drawing_of
+sheet_by-ends : (tasks : Option (List NamedTask)) (w : Work) (h : History) (s : State) → EndsLine (sheet_by tasks w h s)
+sheet_by-ends None w h s = sheet-ends w h s
+sheet_by-ends (Some tasks) w h s = set_sheet-ends w h s (numbered_tasks w tasks)
+
+jobs_by-ends : (tasks : Option (List NamedTask)) (w : Work) (h : History) (s : State) → EndsLine (jobs_by tasks w h s)
+jobs_by-ends None w h s = jobs-end w h s (found_tasks w)
+jobs_by-ends (Some tasks) w h s = jobs-end w h s (numbered_tasks w tasks)
+
+drawing-ends : (d : Drawing) (tasks : Option (List NamedTask)) (w : Work) (es : List Entry) (text : List ℕ) → IsDrawingOf d tasks w es text → EndsLine text
+drawing-ends (Timeline from to) tasks w es text (h, is, e) = subst EndsLine (sym e) (picture-ends w h from to _)
+drawing-ends Trace tasks w es text (h, is, e) = subst EndsLine (sym e) (trace-ends w h)
+drawing-ends (Story sel) tasks w es text e = subst EndsLine (sym e) (story-ends w sel es)
+drawing-ends Report tasks w es text (h, is, e) = subst EndsLine (sym e) (report_by-ends tasks w h _)
+drawing-ends Sheet tasks w es text (h, is, e) = subst EndsLine (sym e) (sheet_by-ends tasks w h _)
+drawing-ends Jobs tasks w es text (h, is, e) = subst EndsLine (sym e) (jobs_by-ends tasks w h _)
+
+pub drawn-ends : (d : Drawing) (tasks : Option (List NamedTask)) (w : Work) (journal text : List ℕ) → IsDrawn d tasks w journal text → EndsLine text
+drawn-ends d tasks w journal text is = drawing-ends d tasks w is.entries text is.drawing_of
 
 -- ---- what is said of them
 
@@ -139,3 +156,4 @@ left-ends Trace w = refl
 left-ends (Story sel) w = story_line-ends w sel
 left-ends Report w = refl
 left-ends Sheet w = refl
+left-ends Jobs w = refl

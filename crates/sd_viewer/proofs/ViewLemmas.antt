@@ -86,7 +86,7 @@ module _ (d : Drawing) (input out : StreamChange) (line : List ℕ) where
       record {
         work = is.work;
         text = is.journal;
-        certificate = is.certificate;
+        certificate = is.certificate.certificate;
         journal = (
           final is.work (opening is.work) es,
           length es,

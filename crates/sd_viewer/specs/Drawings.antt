@@ -1,6 +1,6 @@
 -- What is drawn of a journal.
 -- Source: this project's own.
-use Rattle.std.specs.Prelude.{◌≡◌, ℕ, Bool, ◌&&◌, ◌+◌, ◌-◌, ◌/◌, ◌==◌, max, min, nat_lt, List, [], ◌++◌, length, codes, decimal, if◌then◌else◌}
+use Rattle.std.specs.Prelude.{◌≡◌, ℕ, Bool, ◌&&◌, ◌+◌, ◌-◌, ◌/◌, ◌==◌, max, min, nat_lt, List, [], ◌++◌, length, codes, decimal, Option, if◌then◌else◌}
 use Rattle.sd_types.specs.declared.events.Entry.{Entry}
 use Rattle.sd_types.specs.declared.works.Work.{Work}
 use Rattle.sd_types.specs.Limits.{greatest_limit}
@@ -10,18 +10,18 @@ use Rattle.sd_machine.specs.Runs.{final, IsComplete}
 use Rattle.sd_stretches.specs.declared.histories.History.{History}
 use Rattle.sd_stretches.specs.Histories.{IsHistory}
 use Rattle.sd_audit.specs.Audits.{IsJournalOf}
+use Rattle.sd_tasks.specs.SetTasks.{NamedTask}
 use Rattle.sd_layout.specs.declared.frames.Frame.{Frame}
 use Rattle.sd_layout.specs.Frames.{last_act}
 use Rattle.sd_timeline.specs.Picture.{timeline_text}
 use Rattle.sd_trace.specs.Tracks.{trace_text}
-use Rattle.sd_report.specs.Sheets.{sheet_text}
-use Rattle.sd_report.specs.Tables.{report_text}
 use Rattle.sd_story.specs.declared.selections.Selection.{Selection}
 use Rattle.sd_story.specs.declared.selections.Selection.TheVariants.{Ticks, Thread}
 use Rattle.sd_story.specs.Selections.{has_thread}
 use Rattle.sd_story.specs.Story.{story}
 use Rattle.sd_viewer.specs.declared.drawings.Drawing.{Drawing}
-use Rattle.sd_viewer.specs.declared.drawings.Drawing.TheVariants.{Timeline, Trace, Story, Report, Sheet}
+use Rattle.sd_viewer.specs.declared.drawings.Drawing.TheVariants.{Timeline, Trace, Story, Report, Sheet, Jobs}
+use Rattle.sd_viewer.specs.Reports.{jobs_by, report_by, sheet_by}
 
 -- the ticks from a to b, as far as the run goes, and of these the first 2,000; and the first 100 threads
 abbrev pub first_tick : Work → ℕ → ℕ
@@ -96,22 +96,24 @@ left_line Trace w = []
 left_line (Story selection) w = story_line w selection
 left_line Report w = []
 left_line Sheet w = []
+left_line Jobs w = []
 
 -- the picture of the ticks from a to b, of a run with this history and this last state; there is none where the run has none of the ticks
 abbrev pub picture_text : Work → History → ℕ → ℕ → State → List ℕ
 picture_text w h from to end = if nat_lt from w.limit then timeline_text w (frame_of w h from to) h end else []
 
--- the text is the drawing of the run of these entries
-abbrev pub IsDrawingOf : Drawing → Work → List Entry → List ℕ → Type 0
-IsDrawingOf (Timeline from to) w es text = (h : History) × IsHistory w es h × (text ≡ picture_text w h from to (final w (opening w) es))
-IsDrawingOf Trace w es text = (h : History) × IsHistory w es h × (text ≡ trace_text w h)
-IsDrawingOf (Story selection) w es text = text ≡ story w selection es
-IsDrawingOf Report w es text = (h : History) × IsHistory w es h × (text ≡ report_text w h (final w (opening w) es))
-IsDrawingOf Sheet w es text = (h : History) × IsHistory w es h × (text ≡ sheet_text w h (final w (opening w) es))
+-- the text is the drawing of the run of these entries, whose input tells these tasks
+abbrev pub IsDrawingOf : Drawing → Option (List NamedTask) → Work → List Entry → List ℕ → Type 0
+IsDrawingOf (Timeline from to) tasks w es text = (h : History) × IsHistory w es h × (text ≡ picture_text w h from to (final w (opening w) es))
+IsDrawingOf Trace tasks w es text = (h : History) × IsHistory w es h × (text ≡ trace_text w h)
+IsDrawingOf (Story selection) tasks w es text = text ≡ story w selection es
+IsDrawingOf Report tasks w es text = (h : History) × IsHistory w es h × (text ≡ report_by tasks w h (final w (opening w) es))
+IsDrawingOf Sheet tasks w es text = (h : History) × IsHistory w es h × (text ≡ sheet_by tasks w h (final w (opening w) es))
+IsDrawingOf Jobs tasks w es text = (h : History) × IsHistory w es h × (text ≡ jobs_by tasks w h (final w (opening w) es))
 
--- the text is the drawing of the complete legal run whose journal was read
-pub record IsDrawn (drawing : Drawing) (w : Work) (journal drawn : List ℕ) : Type 0 where
+-- the text is the drawing of the complete legal run whose journal was read, and whose input tells these tasks
+pub record IsDrawn (drawing : Drawing) (tasks : Option (List NamedTask)) (w : Work) (journal drawn : List ℕ) : Type 0 where
   pub entries : List Entry
   pub journal_of : IsJournalOf w journal entries
   pub complete : IsComplete w (final w (opening w) entries)
-  pub drawing_of : IsDrawingOf drawing w entries drawn
+  pub drawing_of : IsDrawingOf drawing tasks w entries drawn

@@ -6,7 +6,7 @@ use Rattle.sd_types.specs.Limits.{greatest_limit, most_name_bytes}
 use Rattle.sd_text.specs.Numbers.{number_of}
 use Rattle.sd_story.specs.declared.selections.Selection.TheVariants.{Ticks, Thread}
 use Rattle.sd_viewer.specs.declared.drawings.Drawing.{Drawing}
-use Rattle.sd_viewer.specs.declared.drawings.Drawing.TheVariants.{Timeline, Trace, Story, Report, Sheet}
+use Rattle.sd_viewer.specs.declared.drawings.Drawing.TheVariants.{Timeline, Trace, Story, Report, Sheet, Jobs}
 use Rattle.sd_viewer.specs.declared.forms.Request.{Request}
 use Rattle.sd_viewer.specs.declared.forms.Request.TheVariants.{Help, Draw}
 
@@ -36,7 +36,8 @@ part_by verb (Some ticks) =
 abbrev pub named_by : List ℕ → List ℕ → Option Drawing
 named_by verb name =
     if same_bytes verb (codes "list") && nat_le (length name) most_name_bytes then Some (Story (Thread (record { items = name })))
-    else if same_bytes verb (codes "report") && same_bytes name (codes "--csv") then Some Sheet else None
+    else if same_bytes verb (codes "report") && same_bytes name (codes "--csv") then Some Sheet
+    else if same_bytes verb (codes "report") && same_bytes name (codes "--jobs") then Some Jobs else None
 
 -- the drawing that the arguments ask for, None where they are of none of the forms
 unfoldable pub drawing_of : List (List ℕ) → Option Drawing

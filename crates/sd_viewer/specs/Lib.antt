@@ -4,6 +4,7 @@ pub mod Forms
 pub mod Gathering
 pub mod Glimpses
 pub mod Promises
+pub mod Reports
 pub mod Starts
 pub mod Viewing
 pub mod Views

@@ -9,9 +9,10 @@ use Rattle.sd_answers.specs.declared.answers.Answer.{Answer}
 use Rattle.sd_answers.specs.declared.answers.Answer.TheVariants.{Done, Usage, WriteFault}
 use Rattle.sd_answers.specs.Answers.{line_with, status_of}
 use Rattle.sd_answers.specs.Certificates.{CausedByCertificate, IsJudged}
-use Rattle.sd_answers.specs.Inputs.{IsCertificate}
 use Rattle.sd_answers.specs.StreamChanges.{StreamChange, AppendsPart, HasFault, HasNoFault, IsUntouched, TellsLine}
+use Rattle.sd_tasks.specs.SetTasks.{NamedTask}
 use Rattle.sd_set_inputs.specs.Sets.{sets}
+use Rattle.sd_set_inputs.specs.ToldTasks.{IsSetCertificate}
 use Rattle.sd_viewer.specs.declared.drawings.Drawing.{Drawing}
 use Rattle.sd_viewer.specs.declared.forms.Request.{Request}
 use Rattle.sd_viewer.specs.declared.forms.Request.TheVariants.{Help, Draw}
@@ -19,12 +20,14 @@ use Rattle.sd_viewer.specs.Drawings.{IsDrawn, left_line}
 use Rattle.sd_viewer.specs.Forms.{request_of}
 use Rattle.sd_viewer.specs.declared.viewing.Drawn.{Drawn}
 
--- the input is a workload or a task set and the journal of a complete run of the workload, and the text is the drawing of this run
+-- The input is a workload or a task set and the journal of a complete run of the workload, and the text is the drawing of this run. The
+-- tasks are those that the set declares, with their deadlines, and none of a workload.
 pub record IsDrawnInput (drawing : Drawing) (input : StreamChange) (text : List ℕ) : Type 0 where
   pub work : Work
+  pub tasks : Option (List NamedTask)
   pub journal : List ℕ
-  pub certificate : IsCertificate sets input work journal
-  pub drawn : IsDrawn drawing work journal text
+  pub certificate : IsSetCertificate input work tasks journal
+  pub drawn : IsDrawn drawing tasks work journal text
 
 -- the drawing of the run whose journal the input holds, and what is said of it, or why there is none
 abbrev pub IsDrawing : Drawing → StreamChange → Result Drawn Answer → Type 0
@@ -35,7 +38,7 @@ IsDrawing drawing input drawn =
 
 -- the line of an answer where no drawing was written: that of an audit, but for the usage
 abbrev pub answer_line : Answer → List ℕ
-answer_line a = line_with (codes "usage: dispview timeline [FROM TO] | trace | list [FROM TO] | list NAME | report [--csv] | --help\n") a
+answer_line a = line_with (codes "usage: dispview timeline [FROM TO] | trace | list [FROM TO] | list NAME | report [--csv | --jobs] | --help\n") a
 
 -- ---- the forms in a few lines
 
@@ -46,7 +49,7 @@ help_text =
     ++ (codes "trace             the run for chrome://tracing and Perfetto (JSON)\n" ++ (codes "list              each entry with a sentence on it\n"
     ++ (codes "list FROM TO      those of the ticks from FROM to TO\n" ++ (codes "list NAME         those that name the thread NAME\n"
     ++ (codes "report            statistics of threads, tasks, locks and processors\n" ++ (codes "report --csv      the same for a spreadsheet (CSV)\n"
-    ++ codes "--help            these lines\n")))))))))
+    ++ (codes "report --jobs     each job of each task\n" ++ codes "--help            these lines\n"))))))))))
 
 -- ---- an answer, its cause and its line
 

@@ -92,12 +92,14 @@ fn named_by(verb: &[u8], name: &[u8]) -> Option<Drawing>
         }))
     } else if is_word(verb, b"report") && is_word(name, b"--csv") {
         Some(Drawing::Sheet)
+    } else if is_word(verb, b"report") && is_word(name, b"--jobs") {
+        Some(Drawing::Jobs)
     } else {
         None
     }
 }
 
-/// The drawing that the arguments ask for: `timeline`, `trace`, `list`, `report`, `report --csv`, `list NAME` with a name of at most 16
+/// The drawing that the arguments ask for: `timeline`, `trace`, `list`, `report`, `report --csv`, `report --jobs`, `list NAME` with a name of at most 16
 /// bytes, or `timeline FROM TO`, `list FROM TO` with FROM below TO and TO at most 100,000; None where they are of none of the forms.
 #[tactic(auto, unfolding(crate::specs::Forms::drawing_of))]
 fn drawing_of(arguments: &[String]) -> Option<Drawing>

@@ -20,6 +20,7 @@ list FROM TO      those of the ticks from FROM to TO
 list NAME         those that name the thread NAME
 report            statistics of threads, tasks, locks and processors
 report --csv      the same for a spreadsheet (CSV)
+report --jobs     each job of each task
 --help            these lines
 ";
 

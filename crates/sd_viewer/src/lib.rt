@@ -10,6 +10,7 @@ mod gathering;
 mod glimpses;
 mod helping;
 mod lines;
+mod reports;
 mod top;
 mod viewing;
 

@@ -172,7 +172,7 @@ fn put_left_line(work: &Work, drawing: &Drawing, out: &mut Vec<u8>) -> Result<()
         Drawing::Timeline { from, to } => put_timeline_line(work, *from, *to, out),
         Drawing::Trace => Ok(()),
         Drawing::Story(selection) => put_story_line(work, selection, out),
-        Drawing::Report | Drawing::Sheet => Ok(()),
+        Drawing::Report | Drawing::Sheet | Drawing::Jobs => Ok(()),
     }
 }
 

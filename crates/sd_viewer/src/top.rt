@@ -18,7 +18,7 @@ use std::alloc::Global;
 use std::io;
 
 const USAGE: &[u8] =
-    b"usage: dispview timeline [FROM TO] | trace | list [FROM TO] | list NAME | report [--csv] | --help\n";
+    b"usage: dispview timeline [FROM TO] | trace | list [FROM TO] | list NAME | report [--csv | --jobs] | --help\n";
 
 /// Writes the line of the answer, or what is said of a drawing, and returns the exit status. A fault of `err` changes none.
 fn tell<E: Sink>(viewed: Result<Vec<u8>, Answer>, err: &mut E) -> u8

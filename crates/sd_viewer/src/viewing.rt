@@ -23,8 +23,9 @@ fn draw_input<S: Source>(alloc: Global, drawing: &Drawing, input: &mut S) -> Res
     ensures { IsDrawing drawing.now (change_of (S.remaining input.old) (S.remaining input.new) (S.fault_count input.old) (S.fault_count input.new)) result }
 {
     let certificate = read_certificate(alloc, input)?;
-    let text = draw(alloc, &certificate.work, &certificate.journal, drawing)?;
-    let line = left_line(alloc, &certificate.work, drawing)?;
+    let work = &certificate.work;
+    let text = draw(alloc, work, &certificate.tasks, &certificate.journal, drawing)?;
+    let line = left_line(alloc, work, drawing)?;
     Ok(Drawn { text, line })
 }
 

@@ -12,3 +12,6 @@ returns-in-Report-clause-exact c = refused_rightly c.args.work.now c.args.text.n
 
 pub returns-in-Sheet-clause-exact : goal.returns-in-Sheet-clause-exact
 returns-in-Sheet-clause-exact c = refused_rightly c.args.work.now c.args.text.now c.draw_view-in-Sheet.result c.draw_view-in-Sheet.ensures.fault
+
+pub returns-in-Jobs-clause-exact : goal.returns-in-Jobs-clause-exact
+returns-in-Jobs-clause-exact c = refused_rightly c.args.work.now c.args.text.now c.draw_view-in-Jobs.result c.draw_view-in-Jobs.ensures.fault

@@ -52,7 +52,7 @@ returns-clause-caused g c =
 pub print_text-requires : goal.print_text-requires
 print_text-requires g c =
     let of = c.in_ok-drawn.ensures.0 in
-    subst EndsLine (sym c.deref.ensures.value) (drawn-ends c.args.drawing.now of.work of.journal c.in_ok-drawn.drawn.text.items of.drawn)
+    subst EndsLine (sym c.deref.ensures.value) (drawn-ends c.args.drawing.now of.tasks of.work of.journal c.in_ok-drawn.drawn.text.items of.drawn)
 
 pub returns-in_err-drawn-clause-leaves : goal.returns-in_err-drawn-clause-leaves
 returns-in_err-drawn-clause-leaves g c =
