@@ -36,6 +36,7 @@ fn divisor_after(a: u64, b: u64, before: u64, i: u64) -> u64
 }
 
 // The greatest number that divides both, of which the second is not 0.
+#[tactic(auto, using(crate::proofs::MeanLemmas::divisor_more), unfolding(crate::specs::Means::divisor_up_to))]
 fn common_divisor(a: u64, b: u64) -> u64
     ensures value { result ≡ common_divisor a b }
     ensures some { 1 ≤ result }
