@@ -3,7 +3,7 @@
 //! Source: response-time analysis (tasks, deadlines); that a task of a workload is a thread that takes units of a semaphore is this
 //! project's own.
 
-ghost use Rattle.std.specs.Prelude.{◌≡◌, ◌++◌, ◌≤◌, IfOk, OnOk, length};
+ghost use Rattle.std.specs.Prelude.{◌≡◌, ◌++◌, ◌<◌, ◌≤◌, IfOk, IfSome, OnOk, length, position};
 ghost use Rattle.sd_types.specs.Works.{same_bytes};
 ghost use Rattle.sd_tasks.specs.SetTasksKept.{task_kept, tasks_kept};
 ghost use Rattle.sd_deadlines.specs.Numbering.{chan_number, chan_tasks, found_task, found_tasks, numbered, numbered_tasks, sema_tasks, tasks_by, thread_number};
@@ -11,7 +11,7 @@ ghost use Rattle.sd_deadlines.specs.Numbering.{chan_number, chan_tasks, found_ta
 use crate::task_table::Task;
 use sd_statistics::{kind_of, script_of, takes};
 use sd_tasks::SetTask;
-use sd_types::{ChanId, ChanKind, Name, Work};
+use sd_types::{ChanId, ChanKind, Name, ThreadDecl, Work};
 use std::alloc::{AllocError, Global};
 
 fn is_named(name: &Name, word: &Name) -> bool
@@ -20,29 +20,36 @@ fn is_named(name: &Name, word: &Name) -> bool
     name.bytes() == word.bytes()
 }
 
+// The place of the first thread with the name.
+fn thread_at(threads: &[ThreadDecl], name: &Name) -> Option<usize>
+    ensures { result ≡ position (λ d. same_bytes d.name.text.items name.now.text.items) threads.now }
+{
+    threads.iter().position(|decl| is_named(&decl.name, name))
+}
+
 // The number of the thread with the name, or of the threads where none has it.
-#[tactic(auto, unfolding(crate::specs::Numbering::thread_number))]
 fn thread_number(work: &Work, name: &Name) -> usize
     ensures { result ≡ thread_number work.now name.now.text.items }
 {
     let threads = work.threads.items();
-    threads
-        .iter()
-        .position(|decl| is_named(&decl.name, name))
-        .unwrap_or(threads.len())
+    thread_at(threads, name).unwrap_or(threads.len())
+}
+
+// The place of the first channel or semaphore with the name.
+fn chan_at(chans: &[(Name, ChanKind)], name: &Name) -> Option<usize>
+    ensures value { result ≡ position (λ k. same_bytes k.0.text.items name.now.text.items) chans.now }
+    ensures within { IfSome result (λ i. i < length chans.now) }
+{
+    chans.iter().position(|chan| is_named(&chan.0, name))
 }
 
 // The number of the channel or semaphore with the name, or of these where none has it.
-#[tactic(auto, unfolding(crate::specs::Numbering::chan_number))]
 fn chan_number(work: &Work, name: &Name) -> usize
     ensures value { result ≡ chan_number work.now name.now.text.items }
     ensures bound { result ≤ length work.now.chans }
 {
     let chans = work.chans.items();
-    chans
-        .iter()
-        .position(|chan| is_named(&chan.0, name))
-        .unwrap_or(chans.len())
+    chan_at(chans, name).unwrap_or(chans.len())
 }
 
 fn numbered(work: &Work, x: &SetTask) -> Task

@@ -1,15 +1,19 @@
 -- What a text spells in the language of task sets.
-use Rattle.std.proofs.Common.{◌≡◌, ℕ, ◌≤◌, List, length, refl, sym, ap, subst, ◌∙◌, inl, inr, arith}
+use Rattle.std.proofs.Common.{◌≡◌, ℕ, ◌≤◌, List, Option, length, refl, sym, ap, subst, ◌∙◌, inl, inr, arith}
 use Rattle.sd_types.specs.declared.works.Work.{Work}
 use Rattle.sd_types.specs.Limits.{most_workload_bytes}
 use Rattle.sd_declare.specs.declared.causes.WorkCause.{WorkCause}
 use Rattle.sd_workload.specs.Accepted.{Accepted}
 use Rattle.sd_workload.proofs.OneLemmas.{one-work}
+use Rattle.sd_tasks.specs.SetTasks.{NamedTask}
 use Rattle.sd_tasks.specs.Written.{Written, text_of}
 use Rattle.sd_releases.specs.Verdicts.{SetVerdict, Expands, RefusesSet, set_verdict}
 use Rattle.sd_releases.proofs.VerdictLemmas.{set-short}
+use Rattle.sd_answers.specs.Inputs.{IsCertificate}
 use Rattle.sd_answers.specs.Languages.{IsSound}
+use Rattle.sd_answers.specs.StreamChanges.{StreamChange}
 use Rattle.sd_set_inputs.specs.Sets.{RefusesSetAt, SpellsSet, StandsFor, sets}
+use Rattle.sd_set_inputs.specs.ToldTasks.{IsSetCertificate}
 
 -- one verdict expands to one text
 one_expansion : (v : SetVerdict) (xs ys : List Written) → v ≡ Expands xs → v ≡ Expands ys → text_of xs ≡ text_of ys
@@ -51,3 +55,7 @@ plain_spells text w accepted = record { base = text; stands = inl ((w, accepted)
 pub alone_of : (text base : List ℕ) (w : Work) → Accepted text w → StandsFor text base → base ≡ text
 alone_of text base w accepted (inl x) = x.1
 alone_of text base w accepted (inr x) = absurd (x.not_plain (w, accepted))
+
+-- a certificate with the tasks that its input tells is one
+pub certificate_of : (input : StreamChange) (w : Work) (tasks : Option (List NamedTask)) (text : List ℕ) → IsSetCertificate input w tasks text → IsCertificate sets input w text
+certificate_of input w tasks text is = record { before = is.before; parts = is.parts; bound = is.bound; accepted = is.accepted }

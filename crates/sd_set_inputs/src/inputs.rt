@@ -5,7 +5,7 @@ ghost use Rattle.sd_answers.specs.StreamChanges.{change_of};
 ghost use Rattle.sd_set_inputs.specs.Sets.{sets};
 ghost use Rattle.sd_set_inputs.specs.ToldTasks.{IsReadingSet};
 
-use crate::spelling::{Spelled, spelled};
+use crate::spelling::{Spelled, read_spelled};
 use sd_answers::{Answer, Parts, read_parts, read_text};
 use sd_tasks::SetTask;
 use sd_text::Source;
@@ -25,7 +25,7 @@ pub fn read_input<S: Source>(alloc: Global, input: &mut S) -> Result<Work, Answe
     ensures { IsReading sets (change_of (S.remaining input.old) (S.remaining input.new) (S.fault_count input.old) (S.fault_count input.new)) result }
 {
     let bytes = read_text(alloc, input)?;
-    let Spelled { work, tasks: _ } = spelled(alloc, &bytes)?;
+    let Spelled { work, tasks: _ } = read_spelled(alloc, &bytes)?;
     Ok(work)
 }
 
@@ -35,7 +35,7 @@ pub fn read_certificate<S: Source>(alloc: Global, input: &mut S) -> Result<SetCe
     ensures { IsReadingSet (change_of (S.remaining input.old) (S.remaining input.new) (S.fault_count input.old) (S.fault_count input.new)) result }
 {
     let Parts { bytes, cut } = read_parts(alloc, input)?;
-    let Spelled { work, tasks } = spelled(alloc, &bytes[..cut.workload_end])?;
+    let Spelled { work, tasks } = read_spelled(alloc, &bytes[..cut.workload_end])?;
     let journal = Vec::from_slice(alloc, &bytes[cut.journal_start..])?;
     Ok(SetCertificate {
         work,

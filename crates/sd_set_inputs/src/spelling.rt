@@ -31,7 +31,7 @@ pub fn fault_answer(fault: SetFault) -> Answer
 }
 
 /// The workload to which a task set expands, with the tasks of the set, or its first line at fault.
-fn expanded(alloc: Global, bytes: &[u8]) -> Result<Spelled, Answer>
+fn read_expanded(alloc: Global, bytes: &[u8]) -> Result<Spelled, Answer>
     requires { length bytes.now < 2 ^ 31 }
     ensures spelled { IsExpanded (set_verdict bytes.now) result }
     ensures tasks { IfOk result (λ found. tasks_said found.tasks ≡ Some (declared_tasks bytes.now)) }
@@ -57,14 +57,14 @@ fn expanded(alloc: Global, bytes: &[u8]) -> Result<Spelled, Answer>
 }
 
 /// The workload that a text spells, with the tasks of the set that it is, if it is one, or the first line at fault of the set.
-pub(crate) fn spelled(alloc: Global, bytes: &[u8]) -> Result<Spelled, Answer>
+pub(crate) fn read_spelled(alloc: Global, bytes: &[u8]) -> Result<Spelled, Answer>
     requires { length bytes.now < 2 ^ 31 }
     ensures spelled { IsSpelled bytes.now result }
     ensures tasks { IfOk result (λ found. tasks_said found.tasks ≡ told_tasks bytes.now) }
 {
     match read_work(alloc, bytes) {
         Ok(work) => Ok(Spelled { work, tasks: None }),
-        Err(WorkFault::At { line: _, cause: _ }) => expanded(alloc, bytes),
+        Err(WorkFault::At { line: _, cause: _ }) => read_expanded(alloc, bytes),
         Err(WorkFault::Memory { line: _ }) => Err(Answer::OutOfMemory),
     }
 }

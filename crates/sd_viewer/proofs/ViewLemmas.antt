@@ -20,7 +20,7 @@ use Rattle.sd_answers.specs.Starts.{WritesHelp}
 use Rattle.sd_answers.specs.StreamChanges.{StreamChange, IsUntouched, Puts, TellsLine}
 use Rattle.sd_answers.proofs.CertificateLemmas.{completes_of, faulty_of, not_usage, refuses_certificate_of, refuses_faulty_of}
 use Rattle.sd_set_inputs.specs.Sets.{sets}
-use Rattle.sd_set_inputs.proofs.SetLemmas.{sets_sound}
+use Rattle.sd_set_inputs.proofs.SetLemmas.{certificate_of, sets_sound}
 use Rattle.sd_viewer.specs.declared.drawings.Drawing.{Drawing}
 use Rattle.sd_viewer.specs.declared.forms.Request.{Request}
 use Rattle.sd_viewer.specs.declared.forms.Request.TheVariants.{Help, Draw}
@@ -86,7 +86,7 @@ module _ (d : Drawing) (input out : StreamChange) (line : List ℕ) where
       record {
         work = is.work;
         text = is.journal;
-        certificate = is.certificate.certificate;
+        certificate = certificate_of input is.work is.tasks is.journal is.certificate;
         journal = (
           final is.work (opening is.work) es,
           length es,

@@ -5,6 +5,7 @@ use Rattle.sd_answers.specs.StreamChanges.{change_of}
 use Rattle.sd_answers.proofs.CertificateLemmas.{unjudged, judged_exit}
 use Rattle.sd_set_inputs.specs.Sets.{sets}
 use Rattle.sd_set_inputs.specs.ToldTasks.{tasks_said}
+use Rattle.sd_set_inputs.proofs.SetLemmas.{certificate_of}
 use Rattle.sd_viewer.specs.Drawings.{IsDrawn, left_line}
 use Rattle.sd_viewer.specs.declared.viewing.Drawn.{Drawn}
 use Rattle.sd_viewer.specs.Viewing.{IsDrawnInput}
@@ -22,7 +23,8 @@ returns-in_err-text g c =
     let drawing = c.args.drawing.now in
     let Made = λ (d : Drawn). (of : IsDrawnInput drawing input d.text.items) × (d.line.items ≡ left_line drawing of.work) in
     judged_exit sets Made input c.from_residual-in_err-text.result (audit_answer fault) c.from_residual-in_err-text.ensures.1
-    (unjudged sets Made input found.work found.journal.items fault c.in_ok-certificate.ensures.certificate
+    (unjudged sets Made input found.work found.journal.items fault
+    (certificate_of input found.work (tasks_said found.tasks) found.journal.items c.in_ok-certificate.ensures)
     (subst (λ text. IsFault found.work text fault) c.deref.ensures.value c.in_err-text.ensures.fault))
 
 pub returns : goal.returns

@@ -1,7 +1,7 @@
 use Rattle.std.proofs.Common.{length, ap, ◌∙◌, arith}
 use Rattle.sd_tasks.specs.WrittenKept.{lines_kept}
 use Rattle.sd_releases.proofs.VerdictLemmas.{set-short}
-use Rattle.sd_set_inputs.proofs.spelling.expanded.Goals as goal
+use Rattle.sd_set_inputs.proofs.spelling.read_expanded.Goals as goal
 
 pub read_work-requires : goal.read_work-requires
 read_work-requires c =
