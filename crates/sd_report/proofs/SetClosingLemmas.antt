@@ -18,21 +18,18 @@ use Rattle.sd_statistics.specs.Tasks.{responses}
 use Rattle.sd_deadlines.specs.declared.job_lines.Delay.{Delay}
 use Rattle.sd_deadlines.specs.declared.task_table.Task.{Task}
 use Rattle.sd_deadlines.specs.declared.task_table.TaskLine.{TaskLine}
+use Rattle.sd_deadlines.specs.Means.{mean_of}
 use Rattle.sd_deadlines.specs.JobLines.{blocks, delayers, preemptions}
 use Rattle.sd_deadlines.specs.TaskTable.{least, set_jobs}
 use Rattle.sd_report.specs.Cells.{cell, left, right}
-use Rattle.sd_report.specs.Histograms.{bar, bar_at, bar_if, bars, histogram, histogram_by, histogram_head, histograms, jobs_at, marks, scale, scale_words, task_histogram}
-use Rattle.sd_report.specs.JobTables.{delay_cells, due_cells, job_head, job_line, jobs_text, names, task_jobs_text, time_cells}
+use Rattle.sd_report.specs.Histograms.{bar, bar_at, bar_head, bar_if, bars, histogram, histogram_by, histogram_head, histograms, jobs_at, marks, scale, task_histogram, title_line}
+use Rattle.sd_report.specs.JobTables.{delay_cells, delay_head, due_cells, due_head, job_head, job_line, jobs_text, names, task_jobs_text, time_cells, time_head}
 use Rattle.sd_report.specs.SetReports.{set_report_text, set_sheet_text}
-use Rattle.sd_report.specs.SetSheets.{job_rows, line_rows, miss_rows, no_longest, response_rows, set_numbers, set_row, set_rows, set_words}
-use Rattle.sd_report.specs.SetTables.{job_cells, miss_cells, response_cells, set_head, set_line, set_section, task_lines}
+use Rattle.sd_report.specs.SetSheets.{job_rows, line_rows, mean_jobs, mean_ticks, miss_rows, no_longest, response_rows, set_numbers, set_row, set_rows, set_words}
+use Rattle.sd_report.specs.SetTables.{job_cells, miss_cells, response_cells, set_head, set_line, set_section, task_lines, unfinished}
 use Rattle.sd_report.specs.Sheets.{sheet_text}
-use Rattle.sd_report.specs.Tables.{report_text}
+use Rattle.sd_report.specs.Tables.{longest_ticks, report_text}
 use Rattle.sd_report.proofs.ClosingLemmas.{fields-end, report-ends, sheet-ends, some-ends}
-
--- what ends with a fixed text and a newline
-behind : (xs fixed : List ℕ) → EndsLine (xs ++ (fixed ++ 10 ∷ []))
-behind xs fixed = subst EndsLine (append_assoc xs fixed (10 ∷ [])) (EndsLine-newline (xs ++ fixed))
 
 -- ---- the table of a set
 
@@ -71,9 +68,10 @@ unfolding bars
 bars-end spans from to = EndsLine-flat_map (bar_at spans from) (bar_at-ends spans from) (range_with_len 0 (to + 1 - from))
 
 histogram_head-ends : (w : Work) (t : ℕ) (spans : List Span) → EndsLine (histogram_head w t spans)
-unfolding histogram_head
+unfolding histogram_head bar_head
 histogram_head-ends w t spans =
-    EndsLine-newline (codes "\nresponses of " ++ thread_name w t ++ scale_words (scale spans) ++ right 9 (codes "ticks") ++ right 8 (codes "jobs"))
+    subst EndsLine (append_assoc (title_line w t (scale spans)) (right 9 (codes "ticks") ++ right 8 (codes "jobs")) (codes "\n"))
+    (EndsLine-newline (title_line w t (scale spans) ++ (right 9 (codes "ticks") ++ right 8 (codes "jobs"))))
 
 histogram_by-ends : (w : Work) (t : ℕ) (spans : List Span) (from : Option ℕ) (to : Option Span) → EndsLine (histogram_by w t spans from to)
 histogram_by-ends w t spans None to = refl
@@ -103,26 +101,48 @@ set_row-ends : (w : Work) (x : Task) (measure : List ℕ) (number ticks : Option
 unfolding set_row
 set_row-ends w x measure number ticks = fields-end (set_words w x measure ++ set_numbers number ticks ++ no_longest)
 
--- two rows, one after the other
-two_rows : (a b : List ℕ) → EndsLine a → EndsLine b → EndsLine (a ++ b)
-two_rows a b p q = EndsLine-append a b p q
+module _ (w : Work) (x : TaskLine) where
+  job_rows-end : EndsLine (job_rows w x)
+  unfolding job_rows
+  job_rows-end =
+      let t = x.task in
+      let deadline = set_row w t (codes "deadline") None t.deadline in
+      let released = set_row w t (codes "released") (Some x.released) None in
+      let complete = set_row w t (codes "complete") (Some x.responses.number) None in
+      let left = set_row w t (codes "unfinished") (Some (unfinished x)) None in
+      EndsLine-append (deadline ++ released ++ complete) left
+      (EndsLine-append (deadline ++ released) complete
+      (EndsLine-append deadline released (set_row-ends w t (codes "deadline") None t.deadline) (set_row-ends w t (codes "released") (Some x.released) None))
+      (set_row-ends w t (codes "complete") (Some x.responses.number) None))
+      (set_row-ends w t (codes "unfinished") (Some (unfinished x)) None)
 
-job_rows-end : (w : Work) (x : TaskLine) → EndsLine (job_rows w x)
-unfolding job_rows
-job_rows-end w x =
-    two_rows _ _ (two_rows _ _ (two_rows _ _ (set_row-ends w x.task _ _ _) (set_row-ends w x.task _ _ _)) (set_row-ends w x.task _ _ _)) (set_row-ends w x.task _ _ _)
+  response_rows-end : EndsLine (response_rows w x)
+  unfolding response_rows
+  response_rows-end =
+      let t = x.task in
+      let m = mean_of x.responses in
+      let greatest = longest_ticks x.responses.longest in
+      let least_row = set_row w t (codes "least") None x.least in
+      let mean_row = set_row w t (codes "mean") (mean_jobs m) (mean_ticks m) in
+      EndsLine-append (least_row ++ mean_row) (set_row w t (codes "greatest") None greatest)
+      (EndsLine-append least_row mean_row (set_row-ends w t (codes "least") None x.least) (set_row-ends w t (codes "mean") (mean_jobs m) (mean_ticks m)))
+      (set_row-ends w t (codes "greatest") None greatest)
 
-response_rows-end : (w : Work) (x : TaskLine) → EndsLine (response_rows w x)
-unfolding response_rows
-response_rows-end w x = two_rows _ _ (two_rows _ _ (set_row-ends w x.task _ _ _) (set_row-ends w x.task _ _ _)) (set_row-ends w x.task _ _ _)
-
-miss_rows-end : (w : Work) (x : TaskLine) → EndsLine (miss_rows w x)
-unfolding miss_rows
-miss_rows-end w x = two_rows _ _ (two_rows _ _ (set_row-ends w x.task _ _ _) (set_row-ends w x.task _ _ _)) (set_row-ends w x.task _ _ _)
+  miss_rows-end : EndsLine (miss_rows w x)
+  unfolding miss_rows
+  miss_rows-end =
+      let t = x.task in
+      let misses = set_row w t (codes "misses") (Some x.misses) None in
+      let first = set_row w t (codes "first miss") None x.first_miss in
+      EndsLine-append (misses ++ first) (set_row w t (codes "blocked") None x.blocked)
+      (EndsLine-append misses first (set_row-ends w t (codes "misses") (Some x.misses) None) (set_row-ends w t (codes "first miss") None x.first_miss))
+      (set_row-ends w t (codes "blocked") None x.blocked)
 
 line_rows-end : (w : Work) (x : TaskLine) → EndsLine (line_rows w x)
 unfolding line_rows
-line_rows-end w x = two_rows _ _ (two_rows _ _ (job_rows-end w x) (response_rows-end w x)) (miss_rows-end w x)
+line_rows-end w x =
+    EndsLine-append (job_rows w x ++ response_rows w x) (miss_rows w x)
+    (EndsLine-append (job_rows w x) (response_rows w x) (job_rows-end w x) (response_rows-end w x)) (miss_rows-end w x)
 
 set_rows-end : (w : Work) (lines : List TaskLine) → EndsLine (set_rows w lines)
 unfolding set_rows
@@ -141,9 +161,7 @@ job_line-ends w x told preempted blocked job =
 
 job_head-ends : EndsLine job_head
 unfolding job_head
-job_head-ends =
-    behind (left 17 (codes "task") ++ right 9 (codes "release") ++ right 9 (codes "start") ++ right 12 (codes "completion") ++ right 10 (codes "response")
-    ++ right 10 (codes "deadline") ++ right 8 (codes "missed") ++ codes "  " ++ left 24 (codes "preempted by")) (codes " blocked by")
+job_head-ends = EndsLine-newline (time_head ++ due_head ++ delay_head)
 
 task_jobs-end : (w : Work) (h : History) (s : State) (x : Task) → EndsLine (task_jobs_text w h s x)
 unfolding task_jobs_text

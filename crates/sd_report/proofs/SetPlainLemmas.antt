@@ -25,8 +25,8 @@ use Rattle.sd_deadlines.specs.JobLines.{blocks, delayers, preemptions}
 use Rattle.sd_deadlines.specs.Means.{mean_of}
 use Rattle.sd_deadlines.specs.TaskTable.{least, misses, set_jobs}
 use Rattle.sd_report.specs.Cells.{left, right}
-use Rattle.sd_report.specs.Histograms.{bar, bar_at, bar_if, bars, histogram_by, histogram_head, histograms, jobs_at, marks, scale, scale_words, task_histogram}
-use Rattle.sd_report.specs.JobTables.{delay_cells, due_cells, job_head, job_line, jobs_text, missed_word, more_names, name_behind, names, task_jobs_text, time_cells}
+use Rattle.sd_report.specs.Histograms.{bar, bar_at, bar_head, bar_if, bars, histogram_by, histogram_head, histograms, jobs_at, marks, scale, scale_words, task_histogram, title_line, title_words}
+use Rattle.sd_report.specs.JobTables.{delay_cells, delay_head, due_cells, due_head, job_head, job_line, jobs_text, missed_word, more_names, name_behind, names, task_jobs_text, time_cells, time_head}
 use Rattle.sd_report.specs.SetReports.{set_report_text}
 use Rattle.sd_report.specs.SetTables.{job_cells, mean_cell, miss_cells, response_cells, set_head, set_line, set_section, task_lines}
 use Rattle.sd_report.specs.Tables.{report_text}
@@ -90,14 +90,22 @@ unfolding bars
 bars-text spans from to = flat-text (bar_at spans from) (bar_at-text spans from) (range_with_len 0 (to + 1 - from))
 
 scale-text : (n : ℕ) → IsText (scale_words n)
+unfolding scale_words
 scale-text n =
     either-text (nat_le n 1) (codes ", a # for each job\n") ((codes ", a # for up to " ++ decimal n) ++ codes " jobs\n") refl
     (simp (list_all-append is_text_byte, decimal-text))
 
+title-text : (w : Work) (t jobs_a_mark : ℕ) → IsText (title_line w t jobs_a_mark)
+unfolding title_line title_words
+title-text w t jobs_a_mark = simp (list_all-append is_text_byte, thread-text w t, scale-text jobs_a_mark)
+
+bar_head-text : IsText bar_head
+unfolding bar_head right
+bar_head-text = refl
+
 histogram_head-text : (w : Work) (t : ℕ) (spans : List Span) → IsText (histogram_head w t spans)
 unfolding histogram_head
-histogram_head-text w t spans =
-    simp (list_all-append is_text_byte, thread-text w t, scale-text (scale spans), right-text 9 (codes "ticks") refl, right-text 8 (codes "jobs") refl)
+histogram_head-text w t spans = simp (list_all-append is_text_byte, title-text w t (scale spans), bar_head-text)
 
 histogram_by-text : (w : Work) (t : ℕ) (spans : List Span) (from : Option ℕ) (to : Option Span) → IsText (histogram_by w t spans from to)
 histogram_by-text w t spans None to = refl
@@ -164,7 +172,7 @@ job_line-text w x told preempted blocked job =
     )
 
 job_head-text : IsText job_head
-unfolding job_head left right
+unfolding job_head time_head due_head delay_head left right
 job_head-text = refl
 
 task_jobs-text : (w : Work) (h : History) (s : State) (x : Task) → IsText (task_jobs_text w h s x)

@@ -42,11 +42,20 @@ bar_at spans from i = bar_if (scale spans) (from + i) (jobs_at spans (from + i))
 unfoldable pub bars : List Span → ℕ → ℕ → List ℕ
 bars spans from to = flat_map (bar_at spans from) (range_with_len 0 (to + 1 - from))
 
-abbrev pub scale_words : ℕ → List ℕ
+unfoldable pub scale_words : ℕ → List ℕ
 scale_words n = if nat_le n 1 then codes ", a # for each job\n" else (codes ", a # for up to " ++ decimal n) ++ codes " jobs\n"
 
+unfoldable pub title_words : Work → ℕ → List ℕ
+title_words w t = codes "\nresponses of " ++ thread_name w t
+
+unfoldable pub title_line : Work → ℕ → ℕ → List ℕ
+title_line w t jobs_a_mark = title_words w t ++ scale_words jobs_a_mark
+
+unfoldable pub bar_head : List ℕ
+bar_head = right 9 (codes "ticks") ++ right 8 (codes "jobs") ++ codes "\n"
+
 unfoldable pub histogram_head : Work → ℕ → List Span → List ℕ
-histogram_head w t spans = codes "\nresponses of " ++ thread_name w t ++ scale_words (scale spans) ++ right 9 (codes "ticks") ++ right 8 (codes "jobs") ++ codes "\n"
+histogram_head w t spans = title_line w t (scale spans) ++ bar_head
 
 -- from the least to the greatest, where there are responses
 abbrev pub histogram_by : Work → ℕ → List Span → Option ℕ → Option Span → List ℕ

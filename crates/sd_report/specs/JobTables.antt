@@ -64,10 +64,17 @@ unfoldable pub job_line : Work → Task → List Happening → List Delay → Li
 job_line w x told preempted blocked job =
     left 17 (thread_name w x.thread) ++ time_cells x told job ++ due_cells x w.limit job ++ delay_cells w preempted blocked job ++ codes "\n"
 
+unfoldable pub time_head : List ℕ
+time_head = left 17 (codes "task") ++ right 9 (codes "release") ++ right 9 (codes "start") ++ right 12 (codes "completion") ++ right 10 (codes "response")
+
+unfoldable pub due_head : List ℕ
+due_head = right 10 (codes "deadline") ++ right 8 (codes "missed")
+
+unfoldable pub delay_head : List ℕ
+delay_head = right 14 (codes "preempted by") ++ right 23 (codes "blocked by")
+
 unfoldable pub job_head : List ℕ
-job_head =
-    left 17 (codes "task") ++ right 9 (codes "release") ++ right 9 (codes "start") ++ right 12 (codes "completion") ++ right 10 (codes "response")
-    ++ right 10 (codes "deadline") ++ right 8 (codes "missed") ++ codes "  " ++ left 24 (codes "preempted by") ++ codes " blocked by\n"
+job_head = time_head ++ due_head ++ delay_head ++ codes "\n"
 
 -- the jobs of a task, from the entries of the run
 abbrev pub jobs_lines : Work → Task → List Happening → List Happening → List Job → List ℕ

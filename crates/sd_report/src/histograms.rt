@@ -1,7 +1,7 @@
 //! The histogram of a task: for each response that occurs how many jobs have it, as a row of marks.
 
 ghost use Rattle.std.specs.Prelude.{◌≡◌, ◌++◌, ◌+◌, ◌≤◌, OnOk};
-ghost use Rattle.sd_report.specs.Histograms.{bar, bar_at, bar_if, bars, histogram, histogram_by, histogram_head, histograms, jobs_at, marks, scale, scale_words, task_histogram};
+ghost use Rattle.sd_report.specs.Histograms.{bar, bar_at, bar_head, bar_if, bars, histogram, histogram_by, histogram_head, histograms, jobs_at, marks, scale, scale_words, task_histogram, title_line, title_words};
 
 use crate::cells::{put_cell, put_right};
 use sd_deadlines::{Task, least, set_jobs};
@@ -89,6 +89,7 @@ fn put_bars(spans: &[Span], from: u32, to: u32, out: &mut Vec<u8>) -> Result<(),
     Ok(())
 }
 
+#[tactic(auto, unfolding(crate::specs::Histograms::scale_words))]
 fn put_scale(n: u64, out: &mut Vec<u8>) -> Result<(), AllocError>
     ensures { OnOk result (out.new.items ≡ out.old.items ++ scale_words n) }
 {
@@ -99,16 +100,48 @@ fn put_scale(n: u64, out: &mut Vec<u8>) -> Result<(), AllocError>
     out.extend_from_slice(b" jobs\n")
 }
 
+fn put_named(words: &[u8], name: &[u8], out: &mut Vec<u8>) -> Result<(), AllocError>
+    ensures { OnOk result (out.new.items ≡ out.old.items ++ (words.now ++ name.now)) }
+{
+    out.extend_from_slice(words)?;
+    out.extend_from_slice(name)
+}
+
+#[tactic(auto, unfolding(crate::specs::Histograms::title_words))]
+fn put_title_words(work: &Work, t: usize, out: &mut Vec<u8>) -> Result<(), AllocError>
+    ensures { OnOk result (out.new.items ≡ out.old.items ++ title_words work.now t) }
+{
+    put_named(b"\nresponses of ", thread_name(work, t), out)
+}
+
+#[tactic(auto, unfolding(crate::specs::Histograms::title_line))]
+fn put_title(
+    work: &Work,
+    t: usize,
+    jobs_a_mark: u64,
+    out: &mut Vec<u8>,
+) -> Result<(), AllocError>
+    ensures { OnOk result (out.new.items ≡ out.old.items ++ title_line work.now t jobs_a_mark) }
+{
+    put_title_words(work, t, out)?;
+    put_scale(jobs_a_mark, out)
+}
+
+#[tactic(auto, unfolding(crate::specs::Histograms::bar_head))]
+fn put_bar_head(out: &mut Vec<u8>) -> Result<(), AllocError>
+    ensures { OnOk result (out.new.items ≡ out.old.items ++ bar_head) }
+{
+    put_right(9, b"ticks", out)?;
+    put_right(8, b"jobs", out)?;
+    out.extend_from_slice(b"\n")
+}
+
 #[tactic(auto, unfolding(crate::specs::Histograms::histogram_head))]
 fn put_head(work: &Work, t: usize, spans: &[Span], out: &mut Vec<u8>) -> Result<(), AllocError>
     ensures { OnOk result (out.new.items ≡ out.old.items ++ histogram_head work.now t spans.now) }
 {
-    out.extend_from_slice(b"\nresponses of ")?;
-    out.extend_from_slice(thread_name(work, t))?;
-    put_scale(scale(spans), out)?;
-    put_right(9, b"ticks", out)?;
-    put_right(8, b"jobs", out)?;
-    out.extend_from_slice(b"\n")
+    put_title(work, t, scale(spans), out)?;
+    put_bar_head(out)
 }
 
 // From the least to the greatest, where there are responses.

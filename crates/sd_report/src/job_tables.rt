@@ -6,7 +6,7 @@ ghost use Rattle.std.specs.Prelude.{◌≡◌, ◌++◌, IfOk, OnOk};
 ghost use Rattle.std.specs.List.{flat_map};
 ghost use Rattle.sd_deadlines.specs.JobLines.{delayers};
 ghost use Rattle.sd_report.specs.Cells.{left};
-ghost use Rattle.sd_report.specs.JobTables.{delay_cells, due_cells, due_tick, job_head, job_line, jobs_lines, jobs_text, missed_word, more_names, name_behind, names, point_tick, response_ticks, task_jobs_text, time_cells};
+ghost use Rattle.sd_report.specs.JobTables.{delay_cells, delay_head, due_cells, due_head, due_tick, job_head, job_line, jobs_lines, jobs_text, missed_word, more_names, name_behind, names, point_tick, response_ticks, task_jobs_text, time_cells, time_head};
 
 use crate::cells::{put_cell, put_left, put_right};
 use crate::set_tables::wide;
@@ -243,20 +243,41 @@ fn put_tasks(
     Ok(())
 }
 
-#[tactic(auto, unfolding(crate::specs::JobTables::job_head))]
-fn put_head(out: &mut Vec<u8>) -> Result<(), AllocError>
-    ensures { OnOk result (out.new.items ≡ out.old.items ++ job_head) }
+#[tactic(auto, unfolding(crate::specs::JobTables::time_head))]
+fn put_time_head(out: &mut Vec<u8>) -> Result<(), AllocError>
+    ensures { OnOk result (out.new.items ≡ out.old.items ++ time_head) }
 {
     put_left(17, b"task", out)?;
     put_right(9, b"release", out)?;
     put_right(9, b"start", out)?;
     put_right(12, b"completion", out)?;
-    put_right(10, b"response", out)?;
+    put_right(10, b"response", out)
+}
+
+#[tactic(auto, unfolding(crate::specs::JobTables::due_head))]
+fn put_due_head(out: &mut Vec<u8>) -> Result<(), AllocError>
+    ensures { OnOk result (out.new.items ≡ out.old.items ++ due_head) }
+{
     put_right(10, b"deadline", out)?;
-    put_right(8, b"missed", out)?;
-    out.extend_from_slice(b"  ")?;
-    put_left(24, b"preempted by", out)?;
-    out.extend_from_slice(b" blocked by\n")
+    put_right(8, b"missed", out)
+}
+
+#[tactic(auto, unfolding(crate::specs::JobTables::delay_head))]
+fn put_delay_head(out: &mut Vec<u8>) -> Result<(), AllocError>
+    ensures { OnOk result (out.new.items ≡ out.old.items ++ delay_head) }
+{
+    put_right(14, b"preempted by", out)?;
+    put_right(23, b"blocked by", out)
+}
+
+#[tactic(auto, unfolding(crate::specs::JobTables::job_head))]
+fn put_head(out: &mut Vec<u8>) -> Result<(), AllocError>
+    ensures { OnOk result (out.new.items ≡ out.old.items ++ job_head) }
+{
+    put_time_head(out)?;
+    put_due_head(out)?;
+    put_delay_head(out)?;
+    out.extend_from_slice(b"\n")
 }
 
 /// The jobs of these tasks in a run of the workload, of which this is the history, and which ends in this state, as a table: a line for
