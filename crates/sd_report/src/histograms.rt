@@ -55,12 +55,7 @@ fn put_bar(jobs_a_mark: u64, ticks: u64, jobs: u64, out: &mut Vec<u8>) -> Result
 }
 
 // Nothing for a response that does not occur.
-fn put_bar_if(
-    jobs_a_mark: u64,
-    ticks: u64,
-    jobs: u64,
-    out: &mut Vec<u8>,
-) -> Result<(), AllocError>
+fn put_bar_if(jobs_a_mark: u64, ticks: u64, jobs: u64, out: &mut Vec<u8>) -> Result<(), AllocError>
     requires { 1 ≤ jobs_a_mark }
     ensures { OnOk result (out.new.items ≡ out.old.items ++ bar_if jobs_a_mark ticks jobs) }
 {
@@ -115,12 +110,7 @@ fn put_title_words(work: &Work, t: usize, out: &mut Vec<u8>) -> Result<(), Alloc
 }
 
 #[tactic(auto, unfolding(crate::specs::Histograms::title_line))]
-fn put_title(
-    work: &Work,
-    t: usize,
-    jobs_a_mark: u64,
-    out: &mut Vec<u8>,
-) -> Result<(), AllocError>
+fn put_title(work: &Work, t: usize, jobs_a_mark: u64, out: &mut Vec<u8>) -> Result<(), AllocError>
     ensures { OnOk result (out.new.items ≡ out.old.items ++ title_line work.now t jobs_a_mark) }
 {
     put_title_words(work, t, out)?;

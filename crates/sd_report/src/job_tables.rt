@@ -52,13 +52,7 @@ fn missed_word(deadline: Option<u64>, missed: bool) -> &'static [u8]
 {
     match deadline {
         None => b"-",
-        Some(_) => {
-            if missed {
-                b"yes"
-            } else {
-                b"no"
-            }
-        }
+        Some(_) => { if missed { b"yes" } else { b"no" } }
     }
 }
 
@@ -77,7 +71,11 @@ fn put_due(x: Task, end: u32, job: &Job, out: &mut Vec<u8>) -> Result<(), AllocE
     ensures { OnOk result (out.new.items ≡ out.old.items ++ due_cells x end job.now) }
 {
     put_cell(10, due_tick(job.release.tick, x.deadline), out)?;
-    put_right(8, missed_word(x.deadline, misses(x.deadline, end, job)), out)?;
+    put_right(
+        8,
+        missed_word(x.deadline, misses(x.deadline, end, job)),
+        out,
+    )?;
     out.extend_from_slice(b"  ")
 }
 

@@ -74,19 +74,30 @@ fn put_row(
 }
 
 #[tactic(auto, unfolding(crate::specs::SetSheets::job_rows))]
-fn put_jobs(
-    alloc: Global,
-    work: &Work,
-    x: &TaskLine,
-    out: &mut Vec<u8>,
-) -> Result<(), AllocError>
+fn put_jobs(alloc: Global, work: &Work, x: &TaskLine, out: &mut Vec<u8>) -> Result<(), AllocError>
     ensures { OnOk result (out.new.items ≡ out.old.items ++ job_rows work.now x.now) }
 {
     let complete = x.responses.number;
     put_row(alloc, work, x.task, b"deadline", None, x.task.deadline, out)?;
-    put_row(alloc, work, x.task, b"released", Some(x.released), None, out)?;
+    put_row(
+        alloc,
+        work,
+        x.task,
+        b"released",
+        Some(x.released),
+        None,
+        out,
+    )?;
     put_row(alloc, work, x.task, b"complete", Some(complete), None, out)?;
-    put_row(alloc, work, x.task, b"unfinished", Some(unfinished(x)), None, out)
+    put_row(
+        alloc,
+        work,
+        x.task,
+        b"unfinished",
+        Some(unfinished(x)),
+        None,
+        out,
+    )
 }
 
 fn mean_jobs(mean: Option<Mean>) -> Option<u64>
@@ -119,21 +130,32 @@ fn put_responses(
     let mean = mean_of(x.responses);
     let greatest = longest_ticks(x.responses.longest);
     put_row(alloc, work, x.task, b"least", None, wide(x.least), out)?;
-    put_row(alloc, work, x.task, b"mean", mean_jobs(mean), mean_ticks(mean), out)?;
+    put_row(
+        alloc,
+        work,
+        x.task,
+        b"mean",
+        mean_jobs(mean),
+        mean_ticks(mean),
+        out,
+    )?;
     put_row(alloc, work, x.task, b"greatest", None, greatest, out)
 }
 
 #[tactic(auto, unfolding(crate::specs::SetSheets::miss_rows))]
-fn put_misses(
-    alloc: Global,
-    work: &Work,
-    x: &TaskLine,
-    out: &mut Vec<u8>,
-) -> Result<(), AllocError>
+fn put_misses(alloc: Global, work: &Work, x: &TaskLine, out: &mut Vec<u8>) -> Result<(), AllocError>
     ensures { OnOk result (out.new.items ≡ out.old.items ++ miss_rows work.now x.now) }
 {
     put_row(alloc, work, x.task, b"misses", Some(x.misses), None, out)?;
-    put_row(alloc, work, x.task, b"first miss", None, wide(x.first_miss), out)?;
+    put_row(
+        alloc,
+        work,
+        x.task,
+        b"first miss",
+        None,
+        wide(x.first_miss),
+        out,
+    )?;
     put_row(alloc, work, x.task, b"blocked", None, x.blocked, out)
 }
 

@@ -31,7 +31,11 @@ fn record_text(alloc: Global, fields: &ByteRecord) -> Result<Vec<u8>, Error>
 }
 
 /// A record; writing to memory fails only where there is none.
-pub(crate) fn put_record(alloc: Global, fields: &ByteRecord, out: &mut Vec<u8>) -> Result<(), AllocError>
+pub(crate) fn put_record(
+    alloc: Global,
+    fields: &ByteRecord,
+    out: &mut Vec<u8>,
+) -> Result<(), AllocError>
     ensures { OnOk result (out.new.items ≡ out.old.items ++ row_text default_writer (fields_of fields.now)) }
 {
     match record_text(alloc, fields) {
@@ -63,7 +67,11 @@ fn push_words(
     push_field(row_object(work, x), fields)
 }
 
-pub(crate) fn push_figure(alloc: Global, n: Option<u64>, fields: &mut ByteRecord) -> Result<(), AllocError>
+pub(crate) fn push_figure(
+    alloc: Global,
+    n: Option<u64>,
+    fields: &mut ByteRecord,
+) -> Result<(), AllocError>
     ensures { OnOk result ((xs : Items (Items ℕ)) → HasFields fields.old xs → HasFields fields.new (xs ++ digits_if n ∷ [])) }
 {
     let text = digits_if(alloc, n)?;
