@@ -1,5 +1,5 @@
 -- Once more of the threads that want and are wanted.
-use Rattle.std.proofs.Common.{◌≡◌, ℕ, zero, suc, ◌-◌, ◌<◌, List, refl, ap, sym, arith}
+use Rattle.std.proofs.Common.{◌≡◌, ℕ, zero, suc, ◌-◌, ◌<◌, List, refl, ap, arith}
 use Rattle.sd_stretches.specs.declared.rows.Stretch.{Stretch}
 use Rattle.sd_holds.specs.declared.holdings.Hold.{Hold}
 use Rattle.sd_timeline.specs.Circles.{trimmed, trimmed_by}
