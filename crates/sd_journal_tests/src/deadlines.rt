@@ -60,7 +60,8 @@ set task,a,blocked,s,,2,,,,,
 ";
 
 /// The jobs of the task.
-const JOBS: &[u8] = b"task               release    start  completion  response  deadline  missed  preempted by             blocked by
+const JOBS: &[u8] =
+    b"task               release    start  completion  response  deadline  missed  preempted by             blocked by
 a                        0        2           4         4         3     yes  -                        -
 ";
 

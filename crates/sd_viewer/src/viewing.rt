@@ -24,7 +24,13 @@ fn draw_input<S: Source>(alloc: Global, drawing: &Drawing, input: &mut S) -> Res
 {
     let certificate = read_certificate(alloc, input)?;
     let work = &certificate.work;
-    let text = draw(alloc, work, &certificate.tasks, &certificate.journal, drawing)?;
+    let text = draw(
+        alloc,
+        work,
+        &certificate.tasks,
+        &certificate.journal,
+        drawing,
+    )?;
     let line = left_line(alloc, work, drawing)?;
     Ok(Drawn { text, line })
 }

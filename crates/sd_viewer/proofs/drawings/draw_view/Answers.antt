@@ -41,6 +41,6 @@ returns-clause-drawn c =
       journal_of = record { run = j.run; spelled = j.spelled; whole = j.whole };
       complete = j.complete;
       drawing_of =
-        drawing_is c.args.view tasks w j.entries run.history _ gathered.history
-        (c.in-Ok.ensures ∙ ap (λ (s : State). view_text c.args.view tasks w run.history s) j.ends);
+          drawing_is c.args.view tasks w j.entries run.history _ gathered.history
+          (c.in-Ok.ensures ∙ ap (λ (s : State). view_text c.args.view tasks w run.history s) j.ends);
     }
