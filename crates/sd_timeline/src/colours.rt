@@ -1,5 +1,5 @@
-//! How threads are told apart: by one of eight colours, dark and middle ones in turn, and by a texture, which grey shows too. So any
-//! eight threads that follow one another differ in grey, and any 32 differ in colour or texture.
+//! How threads are told apart: by one of eight colours, dark and middle ones in turn, and by a texture, which grey shows too. So the
+//! first eight threads differ in grey, and so do the next eight; any 32 that follow one another differ in colour or texture.
 
 ghost use Rattle.std.specs.Prelude.{◌≡◌, ◌++◌, OnOk};
 ghost use Rattle.sd_timeline.specs.Colours.{colour_by, colour_name, colour_of, run_class, spin_class, texture_by, texture_cover, texture_of};
