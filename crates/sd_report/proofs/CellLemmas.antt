@@ -1,5 +1,5 @@
 -- Blanks, and digits behind blanks.
-use Rattle.std.proofs.Common.{◌≡◌, ℕ, ◌+◌, ◌-◌, ◌≤◌, List, [], ◌++◌, length, take, drop, replicate, min, sym, ap, ◌∙◌, arith}
+use Rattle.std.proofs.Common.{◌≡◌, ℕ, ◌+◌, ◌-◌, ◌≤◌, List, ◌++◌, length, take, drop, replicate, min, sym, ap, ◌∙◌, arith}
 use Rattle.std.proofs.lemmas.List.{append-nil, drop-append-le, drop-replicate, length-replicate, take-append-drop, take-replicate}
 use Rattle.sd_report.specs.Cells.{blanks, right}
 use Rattle.sd_report.specs.Histograms.{marks}

@@ -1,5 +1,5 @@
 -- Reports are whole lines: each ends with a newline.
-use Rattle.std.proofs.Common.{◌≡◌, ℕ, Bool, true, false, cond, eqb, List, [], ◌∷◌, ◌++◌, length, refl, subst, append_assoc}
+use Rattle.std.proofs.Common.{ℕ, Bool, true, false, cond, eqb, List, [], ◌∷◌, ◌++◌, length, refl, subst, append_assoc}
 use Rattle.std.specs.Prelude.{◌||◌, codes, decimal, nat_le}
 use Rattle.std.specs.List.{flat_map}
 use Rattle.csv.specs.Writing.{default_writer, is_blank, row_body, row_text}

@@ -1,5 +1,5 @@
 -- Which bytes reports are made of.
-use Rattle.std.proofs.Common.{◌≡◌, ℕ, zero, suc, ◌-◌, List, [], ◌++◌, length, Option, Some, None, refl}
+use Rattle.std.proofs.Common.{ℕ, zero, suc, ◌-◌, List, [], ◌++◌, length, Option, Some, None, refl}
 use Rattle.std.specs.Prelude.{◌==◌, ◌||◌, codes, nat_le}
 use Rattle.std.specs.List.{flat_map}
 use Rattle.std.proofs.lemmas.List.Folds.{list_all-append}

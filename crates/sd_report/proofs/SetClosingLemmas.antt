@@ -1,6 +1,6 @@
 -- Reports of task sets, and tables of jobs, are whole lines: each ends with a newline.
-use Rattle.std.proofs.Common.{◌≡◌, ℕ, ◌+◌, ◌-◌, eqb, List, [], ◌∷◌, ◌++◌, length, Option, Some, None, refl, subst, append_assoc}
-use Rattle.std.specs.Prelude.{codes, nat_le, replicate}
+use Rattle.std.proofs.Common.{ℕ, ◌+◌, ◌-◌, eqb, List, ◌++◌, length, Option, Some, None, refl, subst, append_assoc}
+use Rattle.std.specs.Prelude.{codes}
 use Rattle.std.specs.Int.{div_ceil}
 use Rattle.std.specs.List.{flat_map, range_with_len}
 use Rattle.sd_types.specs.declared.works.Work.{Work}
@@ -19,11 +19,11 @@ use Rattle.sd_deadlines.specs.declared.job_lines.Delay.{Delay}
 use Rattle.sd_deadlines.specs.declared.task_table.Task.{Task}
 use Rattle.sd_deadlines.specs.declared.task_table.TaskLine.{TaskLine}
 use Rattle.sd_deadlines.specs.Means.{mean_of}
-use Rattle.sd_deadlines.specs.JobLines.{blocks, delayers, preemptions}
+use Rattle.sd_deadlines.specs.JobLines.{blocks, preemptions}
 use Rattle.sd_deadlines.specs.TaskTable.{least, set_jobs}
 use Rattle.sd_report.specs.Cells.{cell, left, right}
-use Rattle.sd_report.specs.Histograms.{bar, bar_at, bar_head, bar_if, bars, histogram, histogram_by, histogram_head, histograms, jobs_at, marks, scale, task_histogram, title_line}
-use Rattle.sd_report.specs.JobTables.{delay_cells, delay_head, due_cells, due_head, job_head, job_line, jobs_text, names, task_jobs_text, time_cells, time_head}
+use Rattle.sd_report.specs.Histograms.{bar, bar_at, bar_head, bars, histogram_by, histogram_head, histograms, jobs_at, marks, scale, task_histogram, title_line}
+use Rattle.sd_report.specs.JobTables.{delay_cells, delay_head, due_cells, due_head, job_head, job_line, jobs_text, task_jobs_text, time_cells, time_head}
 use Rattle.sd_report.specs.SetReports.{set_report_text, set_sheet_text}
 use Rattle.sd_report.specs.SetSheets.{job_rows, line_rows, mean_jobs, mean_ticks, miss_rows, no_longest, response_rows, set_numbers, set_row, set_rows, set_words}
 use Rattle.sd_report.specs.SetTables.{job_cells, miss_cells, response_cells, set_head, set_line, set_section, task_lines, unfinished}

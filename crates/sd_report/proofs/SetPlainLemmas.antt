@@ -1,5 +1,5 @@
 -- Which bytes reports of task sets, and tables of jobs, are made of.
-use Rattle.std.proofs.Common.{◌≡◌, ℕ, zero, suc, ◌+◌, ◌-◌, min, Bool, List, [], ◌∷◌, ◌++◌, length, Option, Some, None, refl}
+use Rattle.std.proofs.Common.{ℕ, zero, suc, ◌+◌, ◌-◌, min, Bool, List, [], ◌∷◌, ◌++◌, length, Option, Some, None, refl}
 use Rattle.std.specs.Prelude.{◌==◌, codes, decimal, nat_le, replicate}
 use Rattle.std.specs.Int.{div_ceil}
 use Rattle.std.specs.List.{flat_map, range_with_len}
@@ -25,11 +25,10 @@ use Rattle.sd_deadlines.specs.JobLines.{blocks, delayers, preemptions}
 use Rattle.sd_deadlines.specs.Means.{mean_of}
 use Rattle.sd_deadlines.specs.TaskTable.{least, misses, set_jobs}
 use Rattle.sd_report.specs.Cells.{left, right}
-use Rattle.sd_report.specs.Histograms.{bar, bar_at, bar_head, bar_if, bars, histogram_by, histogram_head, histograms, jobs_at, marks, scale, scale_words, task_histogram, title_line, title_words}
+use Rattle.sd_report.specs.Histograms.{bar, bar_at, bar_head, bars, histogram_by, histogram_head, histograms, jobs_at, scale, scale_words, task_histogram, title_line, title_words}
 use Rattle.sd_report.specs.JobTables.{delay_cells, delay_head, due_cells, due_head, job_head, job_line, jobs_text, missed_word, more_names, name_behind, names, task_jobs_text, time_cells, time_head}
 use Rattle.sd_report.specs.SetReports.{set_report_text}
 use Rattle.sd_report.specs.SetTables.{job_cells, mean_cell, miss_cells, response_cells, set_head, set_line, set_section, task_lines}
-use Rattle.sd_report.specs.Tables.{report_text}
 use Rattle.sd_report.proofs.PlainLemmas.{left-text, number-text, report-text, right-text}
 
 -- ---- the table of a set

@@ -1,6 +1,6 @@
 -- The cells of a table: texts with blanks to a width, and numbers that may be none.
 -- Source: this project's own.
-use Rattle.std.specs.Prelude.{ℕ, ◌-◌, List, [], ◌++◌, length, replicate, codes, decimal, Option, Some, None}
+use Rattle.std.specs.Prelude.{ℕ, ◌-◌, List, ◌++◌, length, replicate, codes, decimal, Option, Some, None}
 
 abbrev pub blanks : ℕ → List ℕ
 blanks n = replicate n 32

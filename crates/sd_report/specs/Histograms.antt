@@ -1,6 +1,6 @@
 -- The histogram of a task: for each response that occurs how many jobs have it, as a row of marks.
 -- Source: this project's own.
-use Rattle.std.specs.Prelude.{ℕ, ◌+◌, ◌-◌, ◌/◌, ◌==◌, min, nat_le, List, [], ◌++◌, length, count_by, replicate, codes, decimal, Option, Some, None, if◌then◌else◌}
+use Rattle.std.specs.Prelude.{ℕ, ◌+◌, ◌-◌, ◌/◌, ◌==◌, min, nat_le, List, [], ◌++◌, length, count_by, replicate, codes, decimal, Option, Some, if◌then◌else◌}
 use Rattle.std.specs.Int.{div_ceil}
 use Rattle.std.specs.List.{flat_map, range_with_len}
 use Rattle.sd_types.specs.declared.works.Work.{Work}
@@ -13,7 +13,6 @@ use Rattle.sd_statistics.specs.Tasks.{responses}
 use Rattle.sd_deadlines.specs.declared.task_table.Task.{Task}
 use Rattle.sd_deadlines.specs.TaskTable.{least, set_jobs}
 use Rattle.sd_report.specs.Cells.{cell, right}
-use Rattle.sd_report.specs.Tables.{longest_ticks}
 
 -- how many of the responses last so many ticks
 abbrev pub jobs_at : List Span → ℕ → ℕ
