@@ -25,6 +25,7 @@ use Rattle.sd_report.specs.Cells.{cell, left, right}
 use Rattle.sd_report.specs.Histograms.{bar, bar_at, bar_head, bars, histogram_by, histogram_head, histograms, jobs_at, marks, scale, task_histogram, title_line}
 use Rattle.sd_report.specs.JobTables.{delay_cells, delay_head, due_cells, due_head, job_head, job_line, jobs_text, task_jobs_text, time_cells, time_head}
 use Rattle.sd_report.specs.SetReports.{set_report_text, set_sheet_text}
+use Rattle.sd_report.specs.SetResponses.{all_responses, response_at, response_if, responses_between, responses_by, task_responses}
 use Rattle.sd_report.specs.SetSheets.{job_rows, line_rows, mean_jobs, mean_ticks, miss_rows, no_longest, response_rows, set_numbers, set_row, set_rows, set_words}
 use Rattle.sd_report.specs.SetTables.{job_cells, miss_cells, response_cells, set_head, set_line, set_section, task_lines, unfinished}
 use Rattle.sd_report.specs.Sheets.{sheet_text}
@@ -148,9 +149,27 @@ set_rows-end : (w : Work) (lines : List TaskLine) → EndsLine (set_rows w lines
 unfolding set_rows
 set_rows-end w lines = EndsLine-flat_map (line_rows w) (line_rows-end w) lines
 
+response_if-ends : (w : Work) (x : Task) (ticks jobs : ℕ) → EndsLine (response_if w x ticks jobs)
+response_if-ends w x ticks jobs = some-ends (eqb jobs 0) (set_row w x (codes "response") (Some jobs) (Some ticks)) (set_row-ends w x (codes "response") (Some jobs) (Some ticks))
+
+responses_by-end : (w : Work) (x : Task) (spans : List Span) (from : Option ℕ) (to : Option Span) → EndsLine (responses_by w x spans from to)
+unfolding responses_between
+responses_by-end w x spans (Some from) (Some to) =
+    EndsLine-flat_map (response_at w x spans from) (λ i. response_if-ends w x (from + i) (jobs_at spans (from + i))) (range_with_len 0 (ticks_of to + 1 - from))
+responses_by-end w x spans (Some from) None = refl
+responses_by-end w x spans None to = refl
+
+all_responses-end : (w : Work) (h : History) (s : State) (tasks : List Task) → EndsLine (all_responses w h s tasks)
+unfolding all_responses
+all_responses-end w h s tasks =
+    EndsLine-flat_map (task_responses w h s) (λ x. let spans = responses x.thread (set_jobs w h s x) in responses_by-end w x spans (least spans) (summary_of spans).longest) tasks
+
 pub set_sheet-ends : (w : Work) (h : History) (s : State) (tasks : List Task) → EndsLine (set_sheet_text w h s tasks)
 unfolding set_sheet_text
-set_sheet-ends w h s tasks = EndsLine-append (sheet_text w h s) (set_rows w (task_lines w h s tasks)) (sheet-ends w h s) (set_rows-end w (task_lines w h s tasks))
+set_sheet-ends w h s tasks =
+    let rows = set_rows w (task_lines w h s tasks) in
+    EndsLine-append (sheet_text w h s ++ rows) (all_responses w h s tasks) (EndsLine-append (sheet_text w h s) rows (sheet-ends w h s) (set_rows-end w (task_lines w h s tasks)))
+    (all_responses-end w h s tasks)
 
 -- ---- the jobs
 

@@ -16,8 +16,8 @@ const MOST_MARKS: usize = 60;
 
 const MARKS: [u8; MOST_MARKS] = [b'#'; MOST_MARKS];
 
-// How many of the responses last so many ticks.
-fn jobs_at(spans: &[Span], ticks: u64) -> usize
+/// How many of the responses last so many ticks.
+pub(crate) fn jobs_at(spans: &[Span], ticks: u64) -> usize
     ensures { result ≡ jobs_at spans.now ticks }
 {
     spans

@@ -9,6 +9,7 @@ mod histograms;
 mod job_tables;
 mod laws;
 mod set_reports;
+mod set_responses;
 mod set_sheets;
 mod set_tables;
 mod sheets;

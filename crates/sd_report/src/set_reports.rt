@@ -4,6 +4,7 @@ ghost use Rattle.std.specs.Prelude.{◌≡◌, IfOk};
 ghost use Rattle.sd_report.specs.SetReports.{set_report_text, set_sheet_text};
 
 use crate::histograms::put_histograms;
+use crate::set_responses::put_responses;
 use crate::set_sheets::put_set_rows;
 use crate::set_tables::{put_set_section, task_lines};
 use crate::sheets::sheet;
@@ -47,5 +48,6 @@ pub fn set_sheet(
     let mut text = sheet(alloc, work, history, end)?;
     let lines = task_lines(alloc, work, history, end, tasks)?;
     put_set_rows(alloc, work, &lines, &mut text)?;
+    put_responses(alloc, work, history, end, tasks, &mut text)?;
     Ok(text)
 }

@@ -54,8 +54,9 @@ fn push_no_longest(fields: &mut ByteRecord) -> Result<(), AllocError>
     push_field(b"", fields)
 }
 
+/// A row on a task: what is measured, a number and ticks.
 #[tactic(auto, unfolding(crate::specs::SetSheets::set_row))]
-fn put_row(
+pub(crate) fn put_row(
     alloc: Global,
     work: &Work,
     x: Task,
