@@ -14,10 +14,10 @@ use std::sync::Wait;
 use std::thread::Threads;
 
 const VIEW_USAGE: &str =
-    "usage: dispview timeline [FROM TO] | trace | list [FROM TO] | list NAME | report [--csv] | --help\n";
+    "usage: dispview timeline [FROM TO] | trace | list [FROM TO] | list NAME | report [--csv | --jobs] | --help\n";
 
 const VIEW_HELP: &str =
-    "dispview reads a workload or a task set, the line journal, and a journal, and judges it:\n(cat W; echo journal; dispsim run < W) | dispview FORM\ntimeline          the run as a picture (SVG)\ntimeline FROM TO  the ticks from FROM to TO of it\ntrace             the run for chrome://tracing and Perfetto (JSON)\nlist              each entry with a sentence on it\nlist FROM TO      those of the ticks from FROM to TO\nlist NAME         those that name the thread NAME\nreport            statistics of threads, tasks, locks and processors\nreport --csv      the same for a spreadsheet (CSV)\n--help            these lines\n";
+    "dispview reads a workload or a task set, the line journal, and a journal, and judges it:\n(cat W; echo journal; dispsim run < W) | dispview FORM\ntimeline          the run as a picture (SVG)\ntimeline FROM TO  the ticks from FROM to TO of it\ntrace             the run for chrome://tracing and Perfetto (JSON)\nlist              each entry with a sentence on it\nlist FROM TO      those of the ticks from FROM to TO\nlist NAME         those that name the thread NAME\nreport            statistics of threads, tasks, locks and processors\nreport --csv      the same for a spreadsheet (CSV)\nreport --jobs     each job of each task\n--help            these lines\n";
 
 const FIND_USAGE: &str =
     "usage: dispfind (blocked | stuck | states | ends NAME | waits NAME) [--most N] [--quiet] | --help\n";
