@@ -57,6 +57,7 @@ set task,a,greatest,s,,4,,,,,
 set task,a,misses,s,1,,,,,,
 set task,a,first miss,s,,0,,,,,
 set task,a,blocked,s,,2,,,,,
+set task,a,response,s,1,4,,,,,
 ";
 
 /// The jobs of the task.
