@@ -93,7 +93,9 @@ def _differs(judge: Judge, command: list[str], ended: Ended, workload: bytes | N
         alike = (ended.status, ended.out, ended.err) == (expanded.status, expanded.out, expanded.err)
         return None if alike else "a set that is refused in another way than by disptask"
     plain = judge.runner.run(command, workload + behind)
-    alike = (ended.status, ended.out, ended.err) == (plain.status, plain.out, plain.err)
+    # a report of a set has the deadlines behind the report of its expansion
+    told = ended.out[: len(plain.out)] if "report" in command else ended.out
+    alike = (ended.status, told, ended.err) == (plain.status, plain.out, plain.err)
     return None if alike else "a set that is answered in another way than its expansion"
 
 
